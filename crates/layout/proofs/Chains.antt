@@ -1,0 +1,136 @@
+-- Chains of refusals: where one accepts, every test of it failed; and each test, as the fact that it tests.
+use mathlib.Core.Path.{_≡_, refl, ap}
+use mathlib.Core.Bool.{Bool, true, false, not, _&&_, _||_}
+use mathlib.Core.List.{List, [], _∷_, List·Memᴰ as Mem, List·Memᴰ·head as here, List·Memᴰ·tail as there, List·Memᴰ·not-nil as not-nil}
+use Prim.Native.Nat.{ℕ, _+_, _*_, _/_, _%_, _≤_}
+use native.Mathlib.Omega.{arith}
+use lib.Arith.{le→nltb}
+use lib.Dec.{T, leb, ltb, eqb, eqb→eq, eqb-refl, nltb→le, T-not, not-T}
+use lib.ListN.{length}
+use Rattle.lists.proofs.Tests.{of-and, to-and, of-nor, to-nor, of-not-not, to-not-not}
+use Rattle.ruler.specs.declared.Time.{Time}
+use Rattle.ruler.specs.Ruler.{Scale, mostTrips}
+use Rattle.trip.specs.declared.Trip.{Trip}
+use Rattle.layout.specs.declared.Half.the-variants.{Originals, Replicas}
+use Rattle.layout.specs.declared.Refusal.{Refusal}
+use Rattle.layout.specs.declared.Outcome.{Outcome}
+use Rattle.layout.specs.declared.Outcome.the-variants.{Accepted, Refused}
+use Rattle.layout.specs.Words.{entryWords, directoryLength, entries, Lengths}
+use Rattle.layout.specs.Refusals.{refuse, isAccepted, outOfBounds, badSize, badDirectory, offRuler, backward, hasId, noRoom, mostPartitions, partitionsHolding, inTooMany}
+use Rattle.layout.proofs.Partitions.{Fits}
+
+-- ---- one link
+
+pub refused-not : {A : Type 0} (why : Refusal) (d : ℕ) → Refused why d ≡ Accepted → A
+refused-not why d e = let z : _≡_ {A = ℕ} 0 1 = cc in absurd (omega arith)
+
+pub refuse-no : (b : Bool) (why : Refusal) (d : ℕ) (rest : Outcome) → refuse b why d rest ≡ Accepted → T (not b) × (rest ≡ Accepted)
+unfolding refuse
+refuse-no true why d rest e = refused-not why d e
+refuse-no false why d rest e = (tt, e)
+
+pub refuse-pass : (b : Bool) (why : Refusal) (d : ℕ) (rest : Outcome) → T (not b) → refuse b why d rest ≡ rest
+unfolding refuse
+refuse-pass true why d rest t = absurd t
+refuse-pass false why d rest t = refl
+
+pub refuse-taken : (b : Bool) (why : Refusal) (d : ℕ) (rest : Outcome) → T b → refuse b why d rest ≡ Refused why d
+unfolding refuse
+refuse-taken true why d rest t = refl
+refuse-taken false why d rest t = absurd t
+
+pub of-accepted : (o : Outcome) → T (isAccepted o) → o ≡ Accepted
+unfolding isAccepted
+of-accepted Accepted t = refl
+of-accepted (Refused why d) t = absurd t
+
+-- ---- each test, as a fact
+
+pub of-outOfBounds : (s : Scale) → T (not (outOfBounds s)) → T (s .good)
+unfolding outOfBounds
+of-outOfBounds s t = of-not-not (s .good) t
+
+pub to-outOfBounds : (s : Scale) → T (s .good) → T (not (outOfBounds s))
+unfolding outOfBounds
+to-outOfBounds s t = to-not-not (s .good) t
+
+-- whole rows, and not too many
+pub record Sized (table : List ℕ) : Type 0 where
+  pub whole-rows : length table % entryWords ≡ 0
+  pub few-rows : length table / entryWords ≤ mostTrips
+
+pub of-badSize : (table : List ℕ) → T (not (badSize table)) → Sized table
+unfolding badSize
+of-badSize table t =
+    let l = length table in
+    let w = of-nor (not (eqb (l % entryWords) 0)) (ltb mostTrips (l / entryWords)) t in
+    record { whole-rows = eqb→eq (l % entryWords) 0 (of-not-not (eqb (l % entryWords) 0) (w .0)); few-rows = nltb→le mostTrips (l / entryWords) (w .1) }
+
+pub to-badSize : (table : List ℕ) → Sized table → T (not (badSize table))
+unfolding badSize
+to-badSize table z =
+    let l = length table in
+    to-nor (not (eqb (l % entryWords) 0)) (ltb mostTrips (l / entryWords)) (to-not-not (eqb (l % entryWords) 0) (rw (z .whole-rows) tt))
+    (le→nltb mostTrips (l / entryWords) (z .few-rows))
+
+pub of-badDirectory : (s : Scale) (n : ℕ) → T (not (badDirectory s n)) → n ≡ directoryLength (s .m)
+unfolding badDirectory
+of-badDirectory s n t = eqb→eq n (directoryLength (s .m)) (of-not-not (eqb n (directoryLength (s .m))) t)
+
+pub to-badDirectory : (s : Scale) (n : ℕ) → n ≡ directoryLength (s .m) → T (not (badDirectory s n))
+unfolding badDirectory
+to-badDirectory s n e = to-not-not (eqb n (directoryLength (s .m))) (rw e (eqb-refl (directoryLength (s .m))))
+
+pub of-times : (s : Scale) (t : Trip) → T (not (offRuler s (t .start) (t .end))) → T (not (backward (t .start) (t .end))) → Fits s t
+unfolding offRuler backward
+of-times s t a b =
+    let p = of-and (s .has (t .start)) (s .has (t .end)) (of-not-not (s .has (t .start) && s .has (t .end)) a) in
+    record { starts = p .0; ends = p .1; ordered = nltb→le (t .end .0) (t .start .0) b }
+
+pub to-offRuler : (s : Scale) (t : Trip) → Fits s t → T (not (offRuler s (t .start) (t .end)))
+unfolding offRuler
+to-offRuler s t f = to-not-not (s .has (t .start) && s .has (t .end)) (to-and (s .has (t .start)) (s .has (t .end)) (f .starts) (f .ends))
+
+pub to-backward : (s : Scale) (t : Trip) → Fits s t → T (not (backward (t .start) (t .end)))
+unfolding backward
+to-backward s t f = le→nltb (t .end .0) (t .start .0) (f .ordered)
+
+pub of-hasId : (i : ℕ) (ts : List Trip) → T (not (hasId i ts)) → (u : Trip) → Mem u ts → u .id ≡ i → ⊥
+unfolding hasId
+of-hasId i [] t u m e = not-nil m
+of-hasId i (x ∷ ts) t u (here p) e = T-not (eqb (x .id) i) (of-nor (eqb (x .id) i) (hasId i ts) t .0) (rw (← e, p) (eqb-refl (x .id)))
+of-hasId i (x ∷ ts) t u (there m) e = of-hasId i ts (of-nor (eqb (x .id) i) (hasId i ts) t .1) u m e
+
+pub to-hasId : (i : ℕ) (ts : List Trip) → ((u : Trip) → Mem u ts → u .id ≡ i → ⊥) → T (not (hasId i ts))
+unfolding hasId
+to-hasId i [] h = tt
+to-hasId i (x ∷ ts) h =
+    to-nor (eqb (x .id) i) (hasId i ts) (not-T (eqb (x .id) i) (λ q. h x (here refl) (eqb→eq (x .id) i q))) (to-hasId i ts (λ u m. h u (there m)))
+
+pub of-inTooMany : (s : Scale) (t : Trip) → T (not (inTooMany s t)) → partitionsHolding s t ≤ mostPartitions
+unfolding inTooMany
+of-inTooMany s t h = nltb→le mostPartitions (partitionsHolding s t) h
+
+pub to-inTooMany : (s : Scale) (t : Trip) → partitionsHolding s t ≤ mostPartitions → T (not (inTooMany s t))
+unfolding inTooMany
+to-inTooMany s t h = le→nltb mostPartitions (partitionsHolding s t) h
+
+-- the entries of both halves have room
+pub record Room (s : Scale) (ts : List Trip) (n : Lengths) : Type 0 where
+  pub for-originals : entryWords * length (entries s Originals ts) ≤ n .originals
+  pub for-replicas : entryWords * length (entries s Replicas ts) ≤ n .replicas
+
+pub of-noRoom : (s : Scale) (ts : List Trip) (n : Lengths) → T (not (noRoom s ts n)) → Room s ts n
+unfolding noRoom
+of-noRoom s ts n t =
+    let o = entryWords * length (entries s Originals ts) in
+    let r = entryWords * length (entries s Replicas ts) in
+    let w = of-nor (ltb (n .originals) o) (ltb (n .replicas) r) t in
+    record { for-originals = nltb→le (n .originals) o (w .0); for-replicas = nltb→le (n .replicas) r (w .1) }
+
+pub to-noRoom : (s : Scale) (ts : List Trip) (n : Lengths) → Room s ts n → T (not (noRoom s ts n))
+unfolding noRoom
+to-noRoom s ts n h =
+    let o = entryWords * length (entries s Originals ts) in
+    let r = entryWords * length (entries s Replicas ts) in
+    to-nor (ltb (n .originals) o) (ltb (n .replicas) r) (le→nltb (n .originals) o (h .for-originals)) (le→nltb (n .replicas) r (h .for-replicas))

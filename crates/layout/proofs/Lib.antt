@@ -1,0 +1,14 @@
+pub mod Subdivisions
+pub mod Partitions
+pub mod Numbers
+pub mod RowOrder
+pub mod Slots
+pub mod Few
+pub mod Rows
+pub mod Chains
+pub mod Tables
+pub mod Indexes
+pub mod Edits
+pub mod Reported
+pub mod Edited
+pub mod Starred

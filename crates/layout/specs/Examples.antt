@@ -1,0 +1,136 @@
+-- Document 01, "Checked examples": the starred ones, in one list of tests that compute. That all of them pass is one statement
+-- (proofs/Starred.antt). The others are run by the program `cases`.
+use mathlib.Core.Bool.{Bool, not, _&&_}
+use mathlib.Core.List.{List, [], _∷_}
+use Prim.Native.Nat.{ℕ}
+use lib.Dec.{eqb}
+use lib.ListN.{length, replicate}
+use Rattle.lists.specs.Lists.{same}
+use Rattle.ruler.specs.Ruler.{Scale, timeAt, scaleOf}
+use Rattle.trip.specs.declared.Trip.{Trip}
+use Rattle.trip.specs.declared.Window.{Window}
+use Rattle.trip.specs.declared.Relationship.{Relationship}
+use Rattle.trip.specs.declared.Relationship.the-variants.{Overlaps, Contains, Before, After, GOverlaps}
+use Rattle.trip.specs.Relationships.{codeOf}
+use Rattle.layout.specs.declared.Subdivision.{Subdivision}
+use Rattle.layout.specs.declared.Subdivision.the-variants.{OIn, OAft, RIn, RAft}
+use Rattle.layout.specs.declared.Outcome.{Outcome}
+use Rattle.layout.specs.declared.Outcome.the-variants.{Accepted}
+use Rattle.layout.specs.Stored.{belongs}
+use Rattle.layout.specs.Words.{Index, Lengths, words, directoryLength, layout}
+use Rattle.layout.specs.Answers.{answer, over}
+use Rattle.layout.specs.Refusals.{numberOf, detailOf, full, partitionsHolding, buildOutcome, windowTests, askOutcome}
+use Rattle.layout.specs.Calls.{askOf}
+
+-- ---- "Ruler w = 6, m = 4; trips 7 [21,38], 3 [20,20], 9 [0,63], 4 [39,40]."
+
+unfoldable pub ruler : (w m : ℕ) → Scale
+ruler w m = scaleOf (record { w = w; m = m })
+
+unfoldable pub trip : (id start end : ℕ) → Trip
+trip i s e = record { id = i; start = timeAt s; end = timeAt e }
+
+unfoldable pub window : (start end : ℕ) → Window
+window s e = record { start = timeAt s; end = timeAt e }
+
+unfoldable pub seven : Trip
+seven = trip 7 21 38
+
+unfoldable pub three : Trip
+three = trip 3 20 20
+
+unfoldable pub nine : Trip
+nine = trip 9 0 63
+
+unfoldable pub four : Trip
+four = trip 4 39 40
+
+-- their index, in arenas for four originals and eight replicas
+unfoldable pub theIndex : Index
+theIndex = layout (ruler 6 4) (seven ∷ three ∷ nine ∷ four ∷ []) (record { directory = directoryLength 4; originals = 12; replicas = 24 })
+
+-- ---- the tests
+
+-- the trip's cells at level m are a..b
+unfoldable pub cells : Trip → (a b : ℕ) → Bool
+cells t a b = eqb (ruler 6 4 .cell (t .start)) a && eqb (ruler 6 4 .cell (t .end)) b
+
+-- the trip has an entry in partition i of level L, under this subdivision; and n entries in all
+unfoldable pub stored : Trip → (L i : ℕ) → Subdivision → Bool
+stored t L i d = belongs (ruler 6 4) d L i t
+
+unfoldable pub inAll : Trip → (n : ℕ) → Bool
+inAll t n = eqb (partitionsHolding (ruler 6 4) t) n
+
+-- an outcome is this number with this detail
+unfoldable pub is : Outcome → (number detail : ℕ) → Bool
+is o number detail = eqb (numberOf o) number && eqb (detailOf o) detail
+
+-- a question to the index, with room for four ids, is accepted and lists these; the words after them stay
+unfoldable pub lists : Relationship → (start end : ℕ) → (ids : List ℕ) → Bool
+lists r s e ids =
+    let a = askOf (ruler 6 4) theIndex (codeOf r) (window s e) (replicate 4 100) in
+    is (a .outcome) 0 0 && (eqb (a .count) (length ids) && same (a .answers) (over ids (replicate 4 100)))
+
+-- a question under code 13, with room for four ids, gives this number
+unfoldable pub refuses : (start end number : ℕ) → Bool
+refuses s e n = is (askOutcome (ruler 6 4) theIndex (codeOf GOverlaps) (window s e) 4) n 0
+
+-- ---- "w = 18, m = 10: 23:40:00 to 25:10:00 is [85200,90600]"
+
+-- the ids that a table of this one trip lists under code 13 (the index itself has 8,190 directory words)
+unfoldable pub nightIds : Window → List ℕ
+nightIds w = answer (record { window = w; relationship = GOverlaps }) (trip 1 85200 90600 ∷ [])
+
+-- a trip with these times as the only row of a table, and a window with these times
+unfoldable pub asRow : (start end : ℕ) → Outcome
+asRow s e = buildOutcome (ruler 18 10) (words (trip 1 s e ∷ [])) (record { directory = directoryLength 10; originals = 3; replicas = 60 })
+
+unfoldable pub asWindow : (start end : ℕ) → Outcome
+asWindow s e = windowTests (ruler 18 10) (window s e) Accepted
+
+-- ---- the starred examples
+
+unfoldable pub starred : List Bool
+starred =
+    -- "Trip 7 has cells 5..9 (000, 003): level 4 partition 5 O_aft; level 3 partition 3 R_aft, partition 4 R_in."
+    cells seven 5 9
+    ∷ stored seven 4 5 OAft
+    ∷ stored seven 3 3 RAft
+    ∷ stored seven 3 4 RIn
+    ∷ inAll seven 3
+    -- "Trip 3: level 4 partition 5 O_in." "Trip 9: level 0 O_in." "Trip 4: level 4 partition 9 O_aft, 10 R_in."
+    ∷ stored three 4 5 OIn
+    ∷ inAll three 1
+    ∷ stored nine 0 0 OIn
+    ∷ inAll nine 1
+    ∷ stored four 4 9 OAft
+    ∷ stored four 4 10 RIn
+    ∷ inAll four 2
+    -- "Code 13 [22,23]: 7, 9. Trip 3 shares the cell and is not listed."
+    ∷ lists GOverlaps 22 23 (7 ∷ 9 ∷ [])
+    ∷ cells three 5 5
+    ∷ eqb (ruler 6 4 .cell (timeAt 22)) 5
+    -- "Code 13 [38,39]: 4, 7, 9." "BEFORE [0,20]: 4, 7." "AFTER [39,63]: 3, 7."
+    ∷ lists GOverlaps 38 39 (4 ∷ 7 ∷ 9 ∷ [])
+    ∷ lists Before 0 20 (4 ∷ 7 ∷ [])
+    ∷ lists After 39 63 (3 ∷ 7 ∷ [])
+    -- "CONTAINS [19,39]: 3, 7." "OVERLAPS [18,30]: 7."
+    ∷ lists Contains 19 39 (3 ∷ 7 ∷ [])
+    ∷ lists Overlaps 18 30 (7 ∷ [])
+    -- "A window [64,3] gives 4 and not 5; [40,39] gives 5; 63 is the last time allowed."
+    ∷ refuses 64 3 4
+    ∷ refuses 40 39 5
+    ∷ refuses 63 63 0
+    ∷ refuses 63 64 4
+    -- "w = 18, m = 10: 23:40:00 to 25:10:00 is [85200,90600], found by [88200,88800] and not by [1800,2400]. Wrapped, [85200,4200] gives 5."
+    ∷ is (asRow 85200 90600) 0 0
+    ∷ same (nightIds (window 88200 88800)) (1 ∷ [])
+    ∷ same (nightIds (window 1800 2400)) []
+    ∷ is (asRow 85200 4200) 5 0
+    ∷ is (asWindow 85200 4200) 5 0
+    ∷ []
+
+-- 2 "add: 4,096 trips already": tables of 4,095 and of 4,096 trips
+unfoldable pub fullness : List Bool
+fullness = not (full (replicate 4095 three)) ∷ full (replicate 4096 three) ∷ []

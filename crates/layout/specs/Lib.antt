@@ -1,0 +1,6 @@
+pub mod Stored
+pub mod Words
+pub mod Answers
+pub mod Refusals
+pub mod Calls
+pub mod Examples

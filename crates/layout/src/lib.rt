@@ -1,0 +1,98 @@
+// What the index is: its halves and subdivisions, the words of an entry, and what a call may answer.
+ghost use mathlib.Core.Path.{_≡_};
+ghost use Rattle.layout.specs.Words.{entryWords};
+ghost use Rattle.layout.specs.Refusals.{mostPartitions, refusalNumber, numberOf, detailOf};
+
+// A directory half with its arena.
+pub enum Half {
+    Originals,
+    Replicas,
+}
+
+pub enum Subdivision {
+    OIn,
+    OAft,
+    RIn,
+    RAft,
+}
+
+// Why a call is refused, in the order of the paper's numbers, from 1 on.
+pub enum Refusal {
+    RulerOutOfBounds,
+    TableSize,
+    DirectoryLength,
+    OffRuler,
+    Backward,
+    IdTaken,
+    NoRoom,
+    NotAnIndex,
+    NoRelationship,
+    NoSuchId,
+    TooManyPartitions,
+    NoSuchSlot,
+}
+
+// What a call answers.
+pub enum Outcome {
+    Accepted,
+    Refused { refusal: Refusal, detail: u32 },
+}
+
+// The words of a table row and of an index entry.
+pub const ENTRY_WORDS: usize = 3;
+
+// A trip that falls into more partitions than these is refused.
+pub const MOST_PARTITIONS: u32 = 20;
+
+// The constants of the code are those of the definitions.
+pub fn entry_words() -> usize
+    ensures { λ r. ⌜ r ≡ entryWords ⌝ }
+{
+    ENTRY_WORDS
+}
+
+pub fn most_partitions() -> u32
+    ensures { λ r. ⌜ r ≡ mostPartitions ⌝ }
+{
+    MOST_PARTITIONS
+}
+
+// The paper's number of a refusal.
+pub fn refusal_number(refusal: Refusal) -> u32
+    ensures { λ r. ⌜ r ≡ refusalNumber refusal ⌝ }
+{
+    match refusal {
+        Refusal::RulerOutOfBounds => 1,
+        Refusal::TableSize => 2,
+        Refusal::DirectoryLength => 3,
+        Refusal::OffRuler => 4,
+        Refusal::Backward => 5,
+        Refusal::IdTaken => 6,
+        Refusal::NoRoom => 7,
+        Refusal::NotAnIndex => 8,
+        Refusal::NoRelationship => 9,
+        Refusal::NoSuchId => 10,
+        Refusal::TooManyPartitions => 11,
+        Refusal::NoSuchSlot => 12,
+    }
+}
+
+// The paper's number of an outcome.
+pub fn number_of(outcome: Outcome) -> u32
+    ensures { λ r. ⌜ r ≡ numberOf outcome ⌝ }
+{
+    match outcome {
+        Outcome::Accepted => 0,
+        Outcome::Refused { refusal, detail: _ } => refusal_number(refusal),
+    }
+}
+
+// The paper's detail of an outcome.
+pub fn detail_of(outcome: Outcome) -> u32
+    ensures { λ r. ⌜ r ≡ detailOf outcome ⌝ }
+{
+    match outcome {
+        Outcome::Accepted => 0,
+        Outcome::Refused { refusal: _, detail } => detail,
+    }
+}

@@ -1,0 +1,58 @@
+-- How many numbers pass a test: laws of `count`.
+use mathlib.Core.Path.{_≡_, refl, sym, ap₂, _∙_}
+use mathlib.Core.Bool.{Bool, true, false}
+use Prim.Native.Nat.{ℕ, zero, suc, _+_, _≤_, _<_}
+use native.Mathlib.Nat.{add-zero, add-suc}
+use native.Mathlib.Omega.{arith}
+use lib.Arith.{le-zero}
+use lib.Dec.{T}
+use Rattle.lists.specs.Lists.{oneMore, count}
+
+-- the last of the numbers that pass, with those before it
+last-one : (g : ℕ → Bool) (n c : ℕ) → suc c ≤ count g n → (k : ℕ) × (k < n) × T (g k) × (c ≤ count g k)
+unfolding count
+last-one g zero c h = absurd (omega arith)
+last-one g (suc n) c h = go (g n) refl (last-one g n c)
+  where
+    go : (b : Bool) → g n ≡ b → (suc c ≤ count g n → (k : ℕ) × (k < n) × T (g k) × (c ≤ count g k)) → (k : ℕ) × (k < suc n) × T (g k) × (c ≤ count g k)
+    go true e ih = let q : suc c ≤ suc (count g n) = rw e at h in (n, omega arith, rw e tt, omega arith)
+    go false e ih = let w = ih (rw e at h) in (w .0, omega arith, w .2, w .3)
+
+pub count-two : (g : ℕ → Bool) (n : ℕ) → ((i j k : ℕ) → i < j → j < k → k < n → T (g i) → T (g j) → T (g k) → ⊥) → count g n ≤ 2
+count-two g n h = le-of-not-lt (λ q.
+    let z = last-one g n 2 q in
+    let y = last-one g (z .0) 1 (z .3) in
+    let x = last-one g (y .0) 0 (y .3) in
+    h (x .0) (y .0) (z .0) (x .1) (y .1) (z .1) (x .2) (y .2) (z .2))
+  where
+    le-of-not-lt : {a b : ℕ} → (b < a → ⊥) → a ≤ b
+    le-of-not-lt f = omega (arith, f)
+
+pub count-add : (g : ℕ → Bool) (n k : ℕ) → count g (n + k) ≡ count g n + count (λ i. g (n + i)) k
+unfolding count
+count-add g n zero = rw add-zero (sym (add-zero (count g n)))
+count-add g n (suc k) = rw (add-suc n k) (go (g (n + k)) (count-add g n k))
+  where
+    go : (b : Bool) → count g (n + k) ≡ count g n + count (λ i. g (n + i)) k → oneMore b (count g (n + k)) ≡ count g n + oneMore b (count (λ i. g (n + i)) k)
+    go true e = omega arith
+    go false e = e
+
+pub count-ext : (f g : ℕ → Bool) (n : ℕ) → ((i : ℕ) → i < n → f i ≡ g i) → count f n ≡ count g n
+unfolding count
+count-ext f g zero h = refl
+count-ext f g (suc n) h = ap₂ oneMore (h n (omega arith)) (count-ext f g n (λ i l. h i (omega arith)))
+
+pub count-le : (g : ℕ → Bool) (n : ℕ) → count g n ≤ n
+unfolding count
+count-le g zero = omega arith
+count-le g (suc n) = go (g n) (count-le g n)
+  where
+    go : (b : Bool) → count g n ≤ n → oneMore b (count g n) ≤ suc n
+    go true h = omega arith
+    go false h = omega arith
+
+pub count-none : (g : ℕ → Bool) (n : ℕ) → ((i : ℕ) → i < n → T (g i) → ⊥) → count g n ≡ 0
+count-none g n h = le-zero (nothing (λ q. let w = last-one g n 0 q in h (w .0) (w .1) (w .2)))
+  where
+    nothing : {a : ℕ} → (1 ≤ a → ⊥) → a ≤ 0
+    nothing f = omega (arith, f)

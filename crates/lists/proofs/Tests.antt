@@ -1,0 +1,57 @@
+-- Tests joined by && and ||, as facts.
+use mathlib.Core.Path.{_≡_, refl}
+use mathlib.Core.Logic.{_⊎_, inl, inr}
+use mathlib.Core.Bool.{Bool, true, false, not, _&&_, _||_}
+use lib.Dec.{T}
+
+pub of-and : (a b : Bool) → T (a && b) → T a × T b
+of-and true b t = (tt, t)
+of-and false b t = absurd t
+
+pub to-and : (a b : Bool) → T a → T b → T (a && b)
+to-and true b s t = t
+to-and false b s t = s
+
+pub of-or : (a b : Bool) → T (a || b) → T a ⊎ T b
+of-or true b t = inl t
+of-or false b t = inr t
+
+pub or-left : (a b : Bool) → T a → T (a || b)
+or-left true b t = t
+or-left false b t = absurd t
+
+pub or-right : (a b : Bool) → T b → T (a || b)
+or-right true b t = tt
+or-right false b t = t
+
+pub of-nor : (a b : Bool) → T (not (a || b)) → T (not a) × T (not b)
+of-nor true b t = absurd t
+of-nor false b t = (tt, t)
+
+pub to-nor : (a b : Bool) → T (not a) → T (not b) → T (not (a || b))
+to-nor true b s t = s
+to-nor false b s t = t
+
+pub of-not-not : (a : Bool) → T (not (not a)) → T a
+of-not-not true t = tt
+of-not-not false t = t
+
+pub to-not-not : (a : Bool) → T a → T (not (not a))
+to-not-not true t = tt
+to-not-not false t = t
+
+-- a test that passes, said by an equation or by T
+pub to-T : {b : Bool} → b ≡ true → T b
+to-T e = rw e tt
+
+pub of-T : (b : Bool) → T b → b ≡ true
+of-T true t = refl
+of-T false t = absurd t
+
+pub of-not-T : (b : Bool) → T (not b) → b ≡ false
+of-not-T true t = absurd t
+of-not-T false t = refl
+
+pub of-no-T : (b : Bool) → (T b → ⊥) → b ≡ false
+of-no-T true f = absurd (f tt)
+of-no-T false f = refl

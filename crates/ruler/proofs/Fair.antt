@@ -1,0 +1,45 @@
+-- What the laws of the index ask of a scale, and that the scale of numbers in bounds has it.
+use mathlib.Core.Path.{_≡_, ap, _∙_}
+use mathlib.Core.Bool.{true, _&&_}
+use Prim.Native.Nat.{ℕ, _+_, _-_, _/_, _^_, _≤_, _<_}
+use native.Mathlib.Omega.{arith}
+use lib.Dec.{T, leb, leb→le, ltb→lt}
+use lib.Pow.{shr-shr, shr-mono, shr-lt}
+use Rattle.lists.proofs.Tests.{of-and}
+use Rattle.ruler.specs.declared.Time.{Time}
+use Rattle.ruler.specs.declared.Numbers.{Numbers}
+use Rattle.ruler.specs.Ruler.{Scale, widest, deepest, inBounds, scaleOf, cellUp}
+
+-- the map from times to level-m cells never falls, and a time of the ruler has one of the 2 ^ m cells
+pub record Fair (s : Scale) : Type 0 where
+  pub never-falls : (t u : Time) → t .0 ≤ u .0 → s .cell t ≤ s .cell u
+  pub one-of : (t : Time) → T (s .has t) → s .cell t < 2 ^ s .m
+
+-- the four tests of a ruler's numbers, as facts
+pub record Bounds (n : Numbers) : Type 0 where
+  pub some : 1 ≤ n .w
+  pub wide : n .w ≤ widest
+  pub deep : n .m ≤ deepest
+  pub fits : n .m ≤ n .w
+
+pub bounds : (n : Numbers) → T (inBounds n) → Bounds n
+unfolding inBounds
+bounds n t =
+    let a = of-and (leb 1 (n .w) && leb (n .w) widest && leb (n .m) deepest) (leb (n .m) (n .w)) t in
+    let b = of-and (leb 1 (n .w) && leb (n .w) widest) (leb (n .m) deepest) (a .0) in
+    let c = of-and (leb 1 (n .w)) (leb (n .w) widest) (b .0) in
+    record { some = leb→le 1 (n .w) (c .0); wide = leb→le (n .w) widest (c .1); deep = leb→le (n .m) deepest (b .1); fits = leb→le (n .m) (n .w) (a .1) }
+
+pub fair : (n : Numbers) → T (inBounds n) → Fair (scaleOf n)
+unfolding scaleOf
+fair n t = let h = bounds n t .fits in record {
+  never-falls = λ t u l. shr-mono (n .w - n .m) l;
+  one-of = λ t b. shr-lt (n .m) (n .w - n .m) (let e : n .m + (n .w - n .m) ≡ n .w = omega arith in rw e (ltb→lt (t .0) (2 ^ n .w) b));
+}
+
+-- "The cell of time t at level L is the whole part of t / 2^(w − L)."
+pub cell-at-level : (n : Numbers) (L : ℕ) (t : Time) → n .m ≤ n .w → L ≤ n .m → cellUp (n .m) L (scaleOf n .cell t) ≡ t .0 / 2 ^ (n .w - L)
+unfolding cellUp scaleOf
+cell-at-level n L t h g =
+    let e : n .w - n .m + (n .m - L) ≡ n .w - L = omega arith in
+    shr-shr (t .0) (n .w - n .m) (n .m - L) ∙ ap (λ (k : ℕ). t .0 / 2 ^ k) e

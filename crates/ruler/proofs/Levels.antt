@@ -1,0 +1,33 @@
+-- The cell of a level in which a deeper cell lies, for any m: a step towards level 0 halves it.
+use mathlib.Core.Path.{_≡_, sym}
+use Prim.Native.Nat.{ℕ, suc, _+_, _-_, _*_, _/_, _^_, _≤_, _<_}
+use native.Mathlib.Nat.{sub-self, div-one, le-div-iff-mul-le, div-lt-iff-lt-mul}
+use native.Mathlib.Omega.{arith}
+use lib.Pow.{pow-pos, shr-shr, shr-mono, shr-lt}
+use Rattle.ruler.specs.Ruler.{cellUp}
+
+-- "each step from level m towards 0 halves it"
+pub up-half : (m L c : ℕ) → suc L ≤ m → cellUp m L c ≡ cellUp m (suc L) c / 2
+unfolding cellUp
+up-half m L c h = let e : m - L ≡ m - suc L + 1 = omega arith in rw e (sym (shr-shr c (m - suc L) 1))
+
+pub up-bottom : (m c : ℕ) → cellUp m m c ≡ c
+unfolding cellUp
+up-bottom m c = rw sub-self (div-one c)
+
+pub up-lt : (m L c : ℕ) → L ≤ m → c < 2 ^ m → cellUp m L c < 2 ^ L
+unfolding cellUp
+up-lt m L c h l = let e : L + (m - L) ≡ m = omega arith in shr-lt L (m - L) (rw e l)
+
+pub up-mono : (m L c d : ℕ) → c ≤ d → cellUp m L c ≤ cellUp m L d
+unfolding cellUp
+up-mono m L c d h = shr-mono (m - L) h
+
+-- the level-m cells of the level-L cell i are i × 2 ^ (m - L) and those after it, as many as 2 ^ (m - L)
+pub up-from : (m L x i : ℕ) → i ≤ cellUp m L x → i * 2 ^ (m - L) ≤ x
+unfolding cellUp
+up-from m L x i h = le-div-iff-mul-le (pow-pos (m - L)) .0 h
+
+pub up-to : (m L x i : ℕ) → cellUp m L x ≤ i → x < (i + 1) * 2 ^ (m - L)
+unfolding cellUp
+up-to m L x i h = div-lt-iff-lt-mul (pow-pos (m - L)) .0 (omega arith)

@@ -1,0 +1,4 @@
+pub mod Levels
+pub mod Fair
+pub mod Judging
+pub mod Shift

@@ -1,0 +1,73 @@
+-- Document 01, "Ruler and cells", as definitions. Every test is a Bool and computes.
+use mathlib.Core.Bool.{Bool, true, false, cond, _&&_}
+use Prim.Native.Nat.{ℕ, _-_, _/_, _^_}
+use lib.Dec.{leb, ltb, eqb}
+use Rattle.ruler.specs.declared.Time.{Time}
+use Rattle.ruler.specs.declared.Cell.{Cell}
+use Rattle.ruler.specs.declared.Numbers.{Numbers}
+use Rattle.ruler.specs.declared.Ruler.{Ruler}
+use Rattle.ruler.specs.declared.Judged.{Judged}
+use Rattle.ruler.specs.declared.Judged.the-variants.{Good, OutOfBounds}
+
+-- "Times are whole seconds on the service day; as in GTFS Schedule they may pass 24:00:00."
+abbrev pub timeAt : (seconds : ℕ) → Time
+timeAt seconds = record { 0 = seconds }
+
+abbrev pub before : Time → Time → Bool
+before s t = ltb (s .0) (t .0)
+
+abbrev pub sameTime : Time → Time → Bool
+sameTime s t = eqb (s .0) (t .0)
+
+abbrev pub noLater : Time → Time → Bool
+noLater s t = leb (s .0) (t .0)
+
+-- "The widest ruler, the deepest level and the most trips, 4,096, are the ruler's own constants."
+abbrev pub widest : ℕ
+widest = 24
+
+abbrev pub deepest : ℕ
+deepest = 10
+
+abbrev pub mostTrips : ℕ
+mostTrips = 4096
+
+-- "A ruler has w, 1 to 24, and m, 0 to 10 and at most w."
+unfoldable pub inBounds : Numbers → Bool
+inBounds n = leb 1 (n .w) && leb (n .w) widest && leb (n .m) deepest && leb (n .m) (n .w)
+
+-- All that the index knows of a ruler: whether its numbers are in bounds, the number m of its deepest level, which raw times it has,
+-- and the level-m cell of a time. Only this file says how a ruler makes its scale.
+pub record Scale : Type 0 where
+  pub good : Bool
+  pub m : ℕ
+  pub has : Time → Bool
+  pub cell : Time → ℕ
+
+-- "Raw times run from 0 to 2^w − 1." "The cell of time t at level L is the whole part of t / 2^(w − L)": here at level m; at each
+-- other level it is `cellUp`, and the law `cell-at-level` says that this is the whole part of t / 2^(w − L).
+unfoldable pub scaleOf : Numbers → Scale
+scaleOf n = record {
+  good = inBounds n;
+  m = n .m;
+  has = λ t. ltb (t .0) (2 ^ n .w);
+  cell = λ t. t .0 / 2 ^ (n .w - n .m);
+}
+
+abbrev pub scale : Ruler → Scale
+scale r = scaleOf (r .numbers)
+
+-- the number of the level-L cell in which the level-m cell c lies: each step towards level 0 halves it
+unfoldable pub cellUp : (m L c : ℕ) → ℕ
+cellUp m L c = c / 2 ^ (m - L)
+
+-- a cell at a level: the level, and the number of the cell there
+abbrev pub cellOf : (level number : ℕ) → Cell
+cellOf level number = record { 0 = level; 1 = number }
+
+abbrev pub cellAt : Scale → (level : ℕ) → Time → Cell
+cellAt s level t = cellOf level (cellUp (s .m) level (s .cell t))
+
+-- the ruler of some numbers, or the refusal of them
+unfoldable pub judge : Numbers → Judged
+judge n = cond (inBounds n) (Good (record { numbers = n })) OutOfBounds

@@ -1,0 +1,92 @@
+// Trips, windows, the fourteen relationships and the question.
+use ruler::Time;
+ghost use mathlib.Core.Path.{_≡_};
+ghost use Rattle.trip.specs.Relationships.{named, related};
+
+// A trip's running time, closed at both ends.
+pub struct Trip {
+    pub id: u32,
+    pub start: Time,
+    pub end: Time,
+}
+
+pub struct Window {
+    pub start: Time,
+    pub end: Time,
+}
+
+pub enum Relationship {
+    Equals,
+    Starts,
+    StartedBy,
+    Finishes,
+    FinishedBy,
+    Meets,
+    MetBy,
+    Overlaps,
+    OverlappedBy,
+    Contains,
+    ContainedBy,
+    Before,
+    After,
+    GOverlaps,
+}
+
+pub struct Question {
+    pub window: Window,
+    pub relationship: Relationship,
+}
+
+// What a code names.
+pub enum Named {
+    As(Relationship),
+    Nothing,
+}
+
+pub fn relationship_of(code: u32) -> Named
+    ensures { λ r. ⌜ r ≡ named code ⌝ }
+{
+    match code {
+        0 => Named::As(Relationship::Equals),
+        1 => Named::As(Relationship::Starts),
+        2 => Named::As(Relationship::StartedBy),
+        3 => Named::As(Relationship::Finishes),
+        4 => Named::As(Relationship::FinishedBy),
+        5 => Named::As(Relationship::Meets),
+        6 => Named::As(Relationship::MetBy),
+        7 => Named::As(Relationship::Overlaps),
+        8 => Named::As(Relationship::OverlappedBy),
+        9 => Named::As(Relationship::Contains),
+        10 => Named::As(Relationship::ContainedBy),
+        11 => Named::As(Relationship::Before),
+        12 => Named::As(Relationship::After),
+        13 => Named::As(Relationship::GOverlaps),
+        _ => Named::Nothing,
+    }
+}
+
+// Whether the window q stands so to the trip s.
+pub fn stands_so(relationship: Relationship, q: Window, s: Trip) -> bool
+    ensures { λ r. ⌜ r ≡ related relationship q s ⌝ }
+{
+    let qs = q.start;
+    let qe = q.end;
+    let ss = s.start;
+    let se = s.end;
+    match relationship {
+        Relationship::Equals => qs.same(ss) & qe.same(se),
+        Relationship::Starts => qs.same(ss) & qe.before(se),
+        Relationship::StartedBy => qs.same(ss) & se.before(qe),
+        Relationship::Finishes => ss.before(qs) & qe.same(se),
+        Relationship::FinishedBy => qs.before(ss) & qe.same(se),
+        Relationship::Meets => qe.same(ss),
+        Relationship::MetBy => qs.same(se),
+        Relationship::Overlaps => qs.before(ss) & ss.before(qe) & qe.before(se),
+        Relationship::OverlappedBy => ss.before(qs) & qs.before(se) & se.before(qe),
+        Relationship::Contains => qs.before(ss) & se.before(qe),
+        Relationship::ContainedBy => ss.before(qs) & qe.before(se),
+        Relationship::Before => qe.before(ss),
+        Relationship::After => se.before(qs),
+        Relationship::GOverlaps => qs.no_later(se) & ss.no_later(qe),
+    }
+}
