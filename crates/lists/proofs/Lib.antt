@@ -6,3 +6,4 @@ pub mod Joined
 pub mod Upto
 pub mod Same
 pub mod Padded
+pub mod Sifting

@@ -1,6 +1,6 @@
 -- The list f 0, f 1, .., f (n - 1): its length, its values, its first value, and a loop that writes it over the front of a list.
 use mathlib.Core.Path.{_≡_, refl, ap, sym, _∙_}
-use mathlib.Core.List.{List, [], _∷_, _++_, append-assoc}
+use mathlib.Core.List.{List, [], _∷_, _++_, append-assoc, map, map-append}
 use Prim.Native.Nat.{ℕ, zero, suc, _+_, _<_}
 use native.Mathlib.Numerals.{add-one}
 use native.Mathlib.Decide.{decLt}
@@ -44,3 +44,8 @@ module _ {A : Type 0} where
   unfolding upTo
   upTo-more f i xs ys v d h e y =
       rw (y, e, add-one, drop-cons xs i d, set-at (upTo f i) (getD xs i d) (drop (suc i) xs) (f i) i (length-upTo f i), append-assoc)
+
+pub map-upTo : {A B : Type 0} (g : A → B) (f : ℕ → A) (n : ℕ) → map g (upTo f n) ≡ upTo (λ k. g (f k)) n
+unfolding upTo
+map-upTo g f zero = refl
+map-upTo {B = B} g f (suc n) = map-append g (upTo f n) (f n ∷ []) ∙ ap (λ (l : List B). l ++ (g (f n) ∷ [])) (map-upTo g f n)

@@ -1,0 +1,2 @@
+// The layer between words and trips: a directory half and its arena as a list of slots, each a list of trips.
+pub mod entry;
