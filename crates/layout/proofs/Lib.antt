@@ -11,4 +11,5 @@ pub mod Indexes
 pub mod Edits
 pub mod Reported
 pub mod Edited
+pub mod Walk
 pub mod Starred

@@ -14,7 +14,7 @@ use Rattle.trip.specs.declared.Trip.{Trip}
 use Rattle.layout.specs.Stored.{firstCell, lastCell, within, holds, holdsTrip, isOriginal, isIn}
 
 -- one level up: cells twice as wide
-width-step : (m L : ℕ) → suc L ≤ m → 2 ^ (m - L) ≡ 2 ^ (m - suc L) * 2
+pub width-step : (m L : ℕ) → suc L ≤ m → 2 ^ (m - L) ≡ 2 ^ (m - suc L) * 2
 width-step m L h = let e : m - L ≡ suc (m - suc L) = omega arith in rw e (pow-suc 2 (m - suc L))
 
 -- the test `within`, as its two facts

@@ -1,5 +1,6 @@
 pub mod Stored
 pub mod Words
+pub mod Walk
 pub mod Answers
 pub mod Refusals
 pub mod Calls
