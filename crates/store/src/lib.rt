@@ -1,2 +1,3 @@
 // The layer between words and trips: a directory half and its arena as a list of slots, each a list of trips.
+pub mod directory;
 pub mod entry;
