@@ -50,4 +50,3 @@ pub record There (dir arena : List ℕ) (slots : List (List Trip)) (slot pos : �
   pub holds : Holds dir arena slots
   pub slot-in : slot < length slots
   pub pos-in : pos < length (getD slots slot [])
-  pub few : length (flat slots) ≤ mostEntries
