@@ -3,24 +3,21 @@ use mathlib.Core.Path.{_≡_, refl, sym, ap, _∙_}
 use mathlib.Core.Bool.{Bool, true, _&&_}
 use mathlib.Core.List.{List, [], _∷_, _++_}
 use Prim.Native.Nat.{ℕ, suc, _+_, _-_, _*_, _/_, _%_, _^_, _≤_, _<_}
-use native.Mathlib.Nat.{two-pow-succ, add-zero}
+use native.Mathlib.Nat.{two-pow-succ}
 use native.Mathlib.Numerals.{add-one}
 use native.Mathlib.Omega.{arith}
 use lib.Dec.{ltb, eqb}
-use lib.ListN.{length, drop, set, length-append}
+use lib.ListN.{length, drop, length-append}
 use lib.Seq.{sets, sets-eq, length-sets}
 use borrow.Author.Tests.{lt-ltb}
+use Rattle.lists.proofs.Stores.{sets-append}
 use Rattle.ruler.specs.Ruler.{deepest}
 use Rattle.layout.specs.declared.Half.{Half}
 use Rattle.layout.specs.Answers.{over}
 use Rattle.layout.specs.Walk.{visit, walk, slotsOf}
 use Rattle.layout.proofs.Walk.{visit-few, walk-few}
 
--- stores one after another
-pub sets-append : (l : List ℕ) (i : ℕ) (v w : List ℕ) → sets l i (v ++ w) ≡ sets (sets l i v) (i + length v) w
-sets-append l i [] w = rw (add-zero i)
-sets-append l i (x ∷ v) w = let e : suc i + length v ≡ i + suc (length v) = omega arith in sets-append (set l i x) (suc i) v w ∙ rw e
-
+-- a run of stores at the front
 pub sets-over : (l v : List ℕ) → length v ≤ length l → sets l 0 v ≡ over v l
 unfolding over
 sets-over l v h = let e : 0 + length v ≡ length v = omega arith in sets-eq v l 0 (rw e h) ∙ rw e

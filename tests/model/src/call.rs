@@ -1,0 +1,212 @@
+//! One call with all its inputs: its line for the probe, and the answer line that the model expects.
+//!
+//! A line is the call's name, its numbers, then each buffer as its length and its words, single spaces.
+
+use crate::model::ask::ask;
+use crate::model::build::build;
+use crate::model::check::check;
+use crate::model::edit::{add, remove};
+use crate::model::index::{Index, Reply};
+use crate::model::trip::Trip;
+use crate::model::view::{census, run};
+
+#[derive(Clone, Debug, PartialEq)]
+pub enum Request {
+    Build { table: Vec<u32> },
+    Check,
+    Add { trip: Trip },
+    Remove { id: u32 },
+    Ask { code: u32, start: u32, end: u32, answers: Vec<u32> },
+    Run { level: u32, partition: u32, subdivision: u32 },
+    Census,
+}
+
+#[derive(Clone, Debug, PartialEq)]
+pub struct Call {
+    pub w: u32,
+    pub m: u32,
+    pub request: Request,
+    pub index: Index,
+}
+
+impl Call {
+    pub fn name(&self) -> &'static str {
+        match self.request {
+            Request::Build { .. } => "build",
+            Request::Check => "check",
+            Request::Add { .. } => "add",
+            Request::Remove { .. } => "remove",
+            Request::Ask { .. } => "ask",
+            Request::Run { .. } => "run",
+            Request::Census => "census",
+        }
+    }
+
+    pub fn line(&self) -> String {
+        let mut line = self.name().to_string();
+        push_words(&mut line, &[self.w, self.m]);
+        match &self.request {
+            Request::Build { table } => push_buffer(&mut line, table),
+            Request::Check | Request::Census => {}
+            Request::Add { trip } => push_words(&mut line, &[trip.id, trip.start, trip.end]),
+            Request::Remove { id } => push_words(&mut line, &[*id]),
+            Request::Ask { code, start, end, .. } => push_words(&mut line, &[*code, *start, *end]),
+            Request::Run { level, partition, subdivision } => {
+                push_words(&mut line, &[*level, *partition, *subdivision])
+            }
+        }
+        push_index(&mut line, &self.index);
+        if let Request::Ask { answers, .. } = &self.request {
+            push_buffer(&mut line, answers);
+        }
+        line
+    }
+
+    /// What the model answers: number, detail, what else the call returns, then each buffer that the
+    /// call may write, as it is afterwards.
+    pub fn answer(&self) -> String {
+        let (w, m) = (self.w, self.m);
+        let mut index = self.index.clone();
+        let mut text;
+        match &self.request {
+            Request::Build { table } => {
+                text = opening(build(w, m, table, &mut index));
+                push_index(&mut text, &index);
+            }
+            Request::Check => text = opening(check(w, m, &index)),
+            Request::Add { trip } => {
+                text = opening(add(w, m, *trip, &mut index));
+                push_index(&mut text, &index);
+            }
+            Request::Remove { id } => {
+                text = opening(remove(w, m, *id, &mut index));
+                push_index(&mut text, &index);
+            }
+            Request::Ask { code, start, end, answers } => {
+                let mut answers = answers.clone();
+                let (reply, count) = ask(w, m, *code, *start, *end, &index, &mut answers);
+                text = opening(reply);
+                push_words(&mut text, &[count]);
+                push_buffer(&mut text, &answers);
+            }
+            Request::Run { level, partition, subdivision } => {
+                let (reply, shown) = run(w, m, *level, *partition, *subdivision, &index);
+                text = opening(reply);
+                push_buffer(&mut text, &shown);
+            }
+            Request::Census => {
+                let (reply, counts) = census(w, m, &index);
+                text = opening(reply);
+                for row in &counts {
+                    push_words(&mut text, row);
+                }
+            }
+        }
+        text
+    }
+
+    /// The call of a line, or nothing where the line is of another form.
+    pub fn read(line: &str) -> Option<Call> {
+        let mut fields = line.split(' ');
+        let name = fields.next()?;
+        let mut words = Vec::new();
+        for field in fields {
+            words.push(plain_number(field)?);
+        }
+        let mut rest = &words[..];
+        let w = take_word(&mut rest)?;
+        let m = take_word(&mut rest)?;
+        let request = match name {
+            "build" => Request::Build { table: take_buffer(&mut rest)? },
+            "check" => Request::Check,
+            "census" => Request::Census,
+            "add" => Request::Add {
+                trip: Trip {
+                    id: take_word(&mut rest)?,
+                    start: take_word(&mut rest)?,
+                    end: take_word(&mut rest)?,
+                },
+            },
+            "remove" => Request::Remove { id: take_word(&mut rest)? },
+            "ask" => Request::Ask {
+                code: take_word(&mut rest)?,
+                start: take_word(&mut rest)?,
+                end: take_word(&mut rest)?,
+                answers: Vec::new(),
+            },
+            "run" => Request::Run {
+                level: take_word(&mut rest)?,
+                partition: take_word(&mut rest)?,
+                subdivision: take_word(&mut rest)?,
+            },
+            _ => return None,
+        };
+        let index = Index {
+            directory: take_buffer(&mut rest)?,
+            originals: take_buffer(&mut rest)?,
+            replicas: take_buffer(&mut rest)?,
+        };
+        let mut call = Call { w, m, request, index };
+        if let Request::Ask { answers, .. } = &mut call.request {
+            *answers = take_buffer(&mut rest)?;
+        }
+        if rest.is_empty() {
+            Some(call)
+        } else {
+            None
+        }
+    }
+}
+
+/// The probe of the model itself, for trying the harness: one answer line for each line.
+pub fn probe_answer(line: &str) -> String {
+    match Call::read(line) {
+        Some(call) => call.answer(),
+        None => "bad line".to_string(),
+    }
+}
+
+fn opening(reply: Reply) -> String {
+    format!("{} {}", reply.number, reply.detail)
+}
+
+fn push_words(line: &mut String, words: &[u32]) {
+    for word in words {
+        line.push(' ');
+        line.push_str(&word.to_string());
+    }
+}
+
+fn push_buffer(line: &mut String, words: &[u32]) {
+    push_words(line, &[words.len() as u32]);
+    push_words(line, words);
+}
+
+fn push_index(line: &mut String, index: &Index) {
+    push_buffer(line, &index.directory);
+    push_buffer(line, &index.originals);
+    push_buffer(line, &index.replicas);
+}
+
+fn plain_number(field: &str) -> Option<u32> {
+    if field.is_empty() || !field.bytes().all(|byte| byte.is_ascii_digit()) {
+        return None;
+    }
+    field.parse().ok()
+}
+
+fn take_word(rest: &mut &[u32]) -> Option<u32> {
+    let (first, others) = rest.split_first()?;
+    *rest = others;
+    Some(*first)
+}
+
+fn take_buffer(rest: &mut &[u32]) -> Option<Vec<u32>> {
+    let length = take_word(rest)? as usize;
+    if length > rest.len() {
+        return None;
+    }
+    let (words, others) = rest.split_at(length);
+    *rest = others;
+    Some(words.to_vec())
+}

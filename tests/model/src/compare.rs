@@ -1,0 +1,193 @@
+//! Runs the programs and compares all they answer with the model.
+
+use crate::call::Call;
+use crate::faults::with_fault;
+use crate::generate::sessions::session_input;
+use crate::generate::{bad_probe_line, Calls};
+use crate::options::Options;
+use crate::program::{answers_of, end_of, run_session, start};
+use crate::random::Random;
+use crate::session::session;
+use std::io::{self, BufWriter, Write};
+use std::thread;
+use std::time::Duration;
+
+/// Differences shown in full; later ones are only counted.
+const SHOWN: usize = 5;
+/// Characters of a line that are shown.
+const SHOWN_TEXT: usize = 3_000;
+
+pub fn compare(probe: &str, program: &str, seed: u64, many: usize, options: &Options) -> io::Result<bool> {
+    let calls = if probe == "-" { Score::default() } else { compare_calls(probe, seed, many, options)? };
+    let sessions = if program == "-" { Score::default() } else { compare_sessions(program, seed, options)? };
+    println!(
+        "agreed: {} of {} calls, {} of {} sessions",
+        calls.agreed,
+        calls.all(),
+        sessions.agreed,
+        sessions.all()
+    );
+    Ok(calls.differed == 0 && sessions.differed == 0)
+}
+
+#[derive(Default)]
+struct Score {
+    agreed: usize,
+    differed: usize,
+}
+
+impl Score {
+    fn all(&self) -> usize {
+        self.agreed + self.differed
+    }
+
+    /// Shows the first few differences.
+    fn count(&mut self, what: &str, input: &str, expected: &str, given: &str) {
+        if expected == given {
+            self.agreed += 1;
+            return;
+        }
+        self.differed += 1;
+        if self.differed <= SHOWN {
+            println!("{} differs{}", what, first_difference(expected, given));
+            println!("  input:    {}", shown(input));
+            println!("  expected: {}", shown(expected));
+            println!("  given:    {}", shown(given));
+        }
+    }
+}
+
+fn shown(text: &str) -> String {
+    let start: String = text.chars().take(SHOWN_TEXT).collect();
+    if start.len() == text.len() {
+        start
+    } else {
+        format!("{} ... ({} characters)", start, text.chars().count())
+    }
+}
+
+fn first_difference(expected: &str, given: &str) -> String {
+    let mut words = expected.split(' ');
+    for (k, word) in given.split(' ').enumerate() {
+        let right = words.next();
+        if right != Some(word) {
+            return format!(", first at word {} of the answer: {} for {}", k, shown(word), right.unwrap_or("the end"));
+        }
+    }
+    ", the answer ends too early".to_string()
+}
+
+/// What is sent to the probe: the calls of the seed, and at times a line that is no call. The thread that
+/// writes and the one that compares draw the same row each for itself, so nothing is kept in between.
+struct Lines {
+    calls: Calls,
+    random: Random,
+    bad_lines: bool,
+    left: usize,
+}
+
+enum ProbeLine {
+    Good(Call),
+    Bad(String),
+}
+
+impl Lines {
+    fn new(seed: u64, many: usize, options: &Options) -> Lines {
+        Lines {
+            calls: Calls::new(seed, options.size),
+            random: Random::of(seed, 1),
+            bad_lines: options.bad_lines,
+            left: many,
+        }
+    }
+}
+
+impl Iterator for Lines {
+    type Item = ProbeLine;
+
+    fn next(&mut self) -> Option<ProbeLine> {
+        if self.left == 0 {
+            return None;
+        }
+        self.left -= 1;
+        let call = self.calls.next()?;
+        if self.bad_lines && self.random.once_in(20) {
+            return Some(ProbeLine::Bad(bad_probe_line(&mut self.random, &call)));
+        }
+        Some(ProbeLine::Good(call))
+    }
+}
+
+fn compare_calls(command: &str, seed: u64, many: usize, options: &Options) -> io::Result<Score> {
+    let mut child = start(command)?;
+    let input = child.stdin.take();
+    let sent = Lines::new(seed, many, options);
+    // The writer must not wait for answers, nor the reader for the writer: else both could stand still.
+    // It is not waited for either, as a program that hangs may never read on.
+    thread::spawn(move || {
+        if let Some(input) = input {
+            // A program that has ended reads no more; the reader will find its answers missing.
+            let _ = write_lines(input, sent);
+        }
+    });
+    let answers = answers_of(&mut child);
+    let mut score = Score::default();
+    for (k, line) in Lines::new(seed, many, options).enumerate() {
+        let (input, expected) = match line {
+            ProbeLine::Good(call) => (call.line(), with_fault(options.fault, || call.answer())),
+            ProbeLine::Bad(text) => (text, "bad line".to_string()),
+        };
+        let given = match answers.recv_timeout(Duration::from_secs(options.wait)) {
+            Ok(given) => given,
+            Err(_) => {
+                score.count(&format!("call {} of seed {}", k, seed), &input, &expected, "(no answer)");
+                score.differed += many - score.all();
+                break;
+            }
+        };
+        score.count(&format!("call {} of seed {}", k, seed), &input, &expected, &given);
+    }
+    if score.differed == 0 {
+        let after = end_of(&mut child, &answers, options.wait)?;
+        if !after.is_empty() {
+            score.count("what follows the last answer", "", "", &after);
+        }
+    }
+    let _ = child.kill();
+    child.wait()?;
+    Ok(score)
+}
+
+fn write_lines<W: Write>(input: W, lines: Lines) -> io::Result<()> {
+    let mut input = BufWriter::new(input);
+    for line in lines {
+        match line {
+            ProbeLine::Good(call) => writeln!(input, "{}", call.line())?,
+            ProbeLine::Bad(text) => writeln!(input, "{}", text)?,
+        }
+    }
+    input.flush()
+}
+
+fn compare_sessions(command: &str, seed: u64, options: &Options) -> io::Result<Score> {
+    let mut score = Score::default();
+    for k in 0..options.sessions {
+        let input = session_input(seed, k);
+        let expected = with_fault(options.fault, || session(&input));
+        let given = run_session(command, &input, options.wait)?;
+        let name = format!("session {} of seed {}", k, seed);
+        score.count(&name, &escaped(&input), &escaped(&expected), &escaped(&given));
+    }
+    Ok(score)
+}
+
+/// Bytes as text on one line.
+fn escaped(bytes: &[u8]) -> String {
+    let mut text = String::new();
+    for byte in bytes {
+        for character in byte.escape_ascii() {
+            text.push(character as char);
+        }
+    }
+    text
+}

@@ -1,0 +1,69 @@
+//! Faults that can be planted in the model, to try whether the harness notices them.
+//!
+//! The model asks `planted(...)` at the few places where such a fault would stand. Without a planted
+//! fault every question is answered with no.
+
+use std::cell::Cell;
+
+#[derive(Clone, Copy, Debug, PartialEq)]
+pub enum Fault {
+    TieOrder,
+    AftByStart,
+    InByStart,
+    ModuloDay,
+    RulerEnd,
+    ReplicaDropped,
+    FiveBeforeFour,
+    LastBadRow,
+    CountOffByOne,
+    LostDetail,
+    ReplicasListed,
+    CellsCompared,
+    OldWords,
+    EndOfSlot,
+    SpareUnchecked,
+    SessionReturn,
+    SessionDigits,
+}
+
+/// Name, fault, and what goes wrong.
+pub const FAULTS: [(&str, Fault, &str); 17] = [
+    ("tie-order", Fault::TieOrder, "equal starts in a slot of originals stand by falling id"),
+    ("aft-by-start", Fault::AftByStart, "R_aft is ordered by start then id"),
+    ("in-by-start", Fault::InByStart, "R_in is ordered by start then id"),
+    ("modulo-day", Fault::ModuloDay, "the cell of a time is taken modulo 86,400 seconds"),
+    ("ruler-end", Fault::RulerEnd, "2^w itself passes for a time"),
+    ("replica-dropped", Fault::ReplicaDropped, "a trip in three partitions or more loses the last"),
+    ("five-before-four", Fault::FiveBeforeFour, "start > end is judged before the ruler's end"),
+    ("last-bad-row", Fault::LastBadRow, "build names the last bad row"),
+    ("count-off-by-one", Fault::CountOffByOne, "a question's count is one more than the ids"),
+    ("lost-detail", Fault::LostDetail, "refusal 7 of a question has no detail"),
+    ("replicas-listed", Fault::ReplicasListed, "code 13 lists a trip once for each relevant partition"),
+    ("cells-compared", Fault::CellsCompared, "code 13 compares cells in place of times"),
+    ("old-words", Fault::OldWords, "a removal leaves the old last words behind"),
+    ("end-of-slot", Fault::EndOfSlot, "an added trip goes to the end of its slots"),
+    ("spare-unchecked", Fault::SpareUnchecked, "the check does not look at words after the last entry"),
+    ("session-return", Fault::SessionReturn, "a carriage return at the end of a line is passed over"),
+    ("session-digits", Fault::SessionDigits, "a number may have more than ten digits"),
+];
+
+thread_local! {
+    static PLANTED: Cell<Option<Fault>> = const { Cell::new(None) };
+}
+
+pub fn planted(fault: Fault) -> bool {
+    PLANTED.with(|cell| cell.get()) == Some(fault)
+}
+
+/// Does `work` with the fault planted, and takes it out again. The calls themselves are always drawn
+/// without it, so that a fault changes answers and never the questions.
+pub fn with_fault<T, F: FnOnce() -> T>(fault: Option<Fault>, work: F) -> T {
+    PLANTED.with(|cell| cell.set(fault));
+    let result = work();
+    PLANTED.with(|cell| cell.set(None));
+    result
+}
+
+pub fn fault_named(name: &str) -> Option<Fault> {
+    FAULTS.iter().find(|known| known.0 == name).map(|known| known.1)
+}

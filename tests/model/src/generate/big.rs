@@ -1,0 +1,96 @@
+//! The most trips, 4,096, and one more.
+
+use super::buffers::dirty;
+use super::made::{index_of, needed_words};
+use super::times::window;
+use crate::call::{Call, Request};
+use crate::model::edit::remove;
+use crate::model::index::{directory_length, Index};
+use crate::model::ruler::MOST_TRIPS;
+use crate::model::trip::{words_of, Trip};
+use crate::random::Random;
+
+pub fn scene(random: &mut Random) -> Vec<Call> {
+    let m = random.pick(&[0, 1, 3, 4, 6, 8, 10]);
+    let w = random.pick(&[m + 1, m + 4, 17, 24]);
+    let rows = short_trips(random, w, m, MOST_TRIPS + 1);
+    let full = &rows[..MOST_TRIPS];
+    let over = rows[MOST_TRIPS];
+    let mut calls = builds(random, w, m, full, over);
+    let (originals, replicas) = needed_words(w, m, full);
+    let index = index_of(w, m, full, originals, replicas);
+    let last = (1u32 << w) - 1;
+    let call = |request: Request| Call { w, m, request, index: index.clone() };
+
+    calls.push(call(Request::Check));
+    calls.push(call(Request::Census));
+    calls.push(call(Request::Run { level: 0, partition: 0, subdivision: 0 }));
+    // 2 comes before what is wrong with the trip.
+    calls.push(call(Request::Add { trip: over }));
+    calls.push(call(Request::Add { trip: Trip { id: full[0].id, start: last + 1, end: 0 } }));
+    for length in [MOST_TRIPS, MOST_TRIPS - 1, MOST_TRIPS + 1] {
+        let answers = dirty(random, length);
+        calls.push(call(Request::Ask { code: 13, start: 0, end: last, answers }));
+    }
+    let (start, end) = window(random, w, m, full);
+    let answers = dirty(random, MOST_TRIPS);
+    calls.push(call(Request::Ask { code: random.between(0, 13), start, end, answers }));
+
+    // Room freed by a removal serves the next addition, to the last trip.
+    let gone = random.pick(full);
+    calls.push(call(Request::Remove { id: gone.id }));
+    let mut less = index.clone();
+    remove(w, m, gone.id, &mut less);
+    calls.push(Call { w, m, request: Request::Add { trip: gone }, index: less });
+
+    // One trip too many is no index of any table.
+    let (originals, replicas) = needed_words(w, m, &rows);
+    let beyond = index_of(w, m, &rows, originals, replicas);
+    calls.push(Call { w, m, request: Request::Check, index: beyond });
+    calls
+}
+
+/// A build of all, one word short of it, with an id twice at the very end, and with too many rows.
+fn builds(random: &mut Random, w: u32, m: u32, full: &[Trip], over: Trip) -> Vec<Call> {
+    let (originals, replicas) = needed_words(w, m, full);
+    let mut calls = Vec::new();
+    let table = words_of(full);
+    calls.push(build_call(random, w, m, table.clone(), originals, replicas));
+    calls.push(build_call(random, w, m, table.clone(), originals - 1, replicas));
+    let mut twice = table.clone();
+    let id_of_last = twice.len() - 3;
+    twice[id_of_last] = twice[0];
+    calls.push(build_call(random, w, m, twice, originals, replicas));
+    let mut longer = table.clone();
+    longer.extend(words_of(&[over]));
+    calls.push(build_call(random, w, m, longer, originals + 3, replicas));
+    let mut uneven = table;
+    uneven.push(0);
+    calls.push(build_call(random, w, m, uneven, originals, replicas));
+    calls
+}
+
+fn build_call(random: &mut Random, w: u32, m: u32, table: Vec<u32>, originals: usize, replicas: usize) -> Call {
+    let index = Index {
+        directory: dirty(random, directory_length(m)),
+        originals: dirty(random, originals),
+        replicas: dirty(random, replicas),
+    };
+    Call { w, m, request: Request::Build { table }, index }
+}
+
+/// Trips of a few cells at most, as long ones would need more replicas than a probe must hold.
+fn short_trips(random: &mut Random, w: u32, m: u32, many: usize) -> Vec<Trip> {
+    let last = (1u32 << w) - 1;
+    let longest = (1u32 << (w - m)).saturating_mul(3);
+    let mut found = Vec::new();
+    let first = random.word();
+    for k in 0..many as u32 {
+        let start = random.between(0, last);
+        let length = random.between(0, longest).min(last - start);
+        // An odd factor keeps ids apart and mixes their order.
+        let id = first.wrapping_add(k.wrapping_mul(2_654_435_761));
+        found.push(Trip { id, start, end: start + length });
+    }
+    found
+}

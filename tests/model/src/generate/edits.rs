@@ -1,0 +1,85 @@
+//! Long histories of additions and removals on one index. The words go from call to call.
+
+use super::made::{index_of, needed_words, new_id, Made};
+use super::questions::{any_code, question};
+use super::rows::spoil_addition;
+use super::rulers::ruler;
+use super::size::Size;
+use super::tables::trips;
+use super::times::{span, times_of, window};
+use crate::call::{Call, Request};
+use crate::model::edit::{add, remove};
+use crate::model::trip::{trips_of, Trip};
+use crate::random::Random;
+
+pub fn scene(random: &mut Random, size: Size) -> Vec<Call> {
+    let mut made = history_start(random, size);
+    let many = random.between(5, size.edits as u32);
+    let mut calls = Vec::new();
+    // Growing and shrinking by turns, so that full arenas, empty ones and refilled ones all come up.
+    let mut growing = true;
+    for _ in 0..many {
+        if random.once_in(12) {
+            growing = !growing;
+        }
+        let call = if random.once_in(8) {
+            let (start, end) = window(random, made.w, made.m, &made.trips);
+            let code = any_code(random);
+            question(random, size, &made, code, start, end)
+        } else if random.once_in(6) == growing {
+            removal(random, &made)
+        } else {
+            addition(random, &made)
+        };
+        follow(&mut made, &call);
+        calls.push(call);
+    }
+    calls
+}
+
+/// Arenas with room for some trips more than there are, and not for all that will come.
+fn history_start(random: &mut Random, size: Size) -> Made {
+    let (w, m) = ruler(random, size);
+    let all = trips(random, w, m, size.trips);
+    let (originals, replicas) = needed_words(w, m, &all);
+    let first: Vec<Trip> = all.iter().take(random.below(all.len() + 1)).cloned().collect();
+    let originals_length = originals + random.below(size.spare + 1);
+    let replicas_length = replicas + random.below(size.spare + 1);
+    let index = index_of(w, m, &first, originals_length, replicas_length);
+    Made { w, m, trips: first, index }
+}
+
+/// A new trip, or one with faults; at times the copy of a trip under another id.
+pub fn addition(random: &mut Random, made: &Made) -> Call {
+    let known = times_of(&made.trips);
+    let (start, end) = span(random, made.w, made.m, &known);
+    let mut trip = Trip { id: new_id(random, &made.trips), start, end };
+    if !made.trips.is_empty() && random.once_in(4) {
+        let like = random.pick(&made.trips);
+        trip.start = like.start;
+        trip.end = like.end;
+    }
+    if random.once_in(6) {
+        spoil_addition(random, made.w, &mut trip, &made.trips);
+    }
+    Call { w: made.w, m: made.m, request: Request::Add { trip }, index: made.index.clone() }
+}
+
+pub fn removal(random: &mut Random, made: &Made) -> Call {
+    let absent = made.trips.is_empty() || random.once_in(8);
+    let id = if absent { new_id(random, &made.trips) } else { random.pick(&made.trips).id };
+    Call { w: made.w, m: made.m, request: Request::Remove { id }, index: made.index.clone() }
+}
+
+/// What the call leaves is where the next one begins.
+fn follow(made: &mut Made, call: &Call) {
+    let reply = match &call.request {
+        Request::Add { trip } => add(made.w, made.m, *trip, &mut made.index),
+        Request::Remove { id } => remove(made.w, made.m, *id, &mut made.index),
+        _ => return,
+    };
+    if reply.number == 0 {
+        let total = made.index.directory[made.index.directory.len() / 2 - 1] as usize;
+        made.trips = trips_of(&made.index.originals[..3 * total]);
+    }
+}

@@ -1,0 +1,152 @@
+//! Calls and sessions drawn from a seed: lawful ones, and ones made to be got wrong.
+
+mod big;
+mod buffers;
+mod builds;
+mod damage;
+mod damage_slots;
+mod damaged;
+mod edits;
+mod lines;
+mod made;
+mod questions;
+mod rulers;
+mod rows;
+mod session_lines;
+pub mod sessions;
+mod size;
+mod sweep;
+mod tables;
+mod times;
+mod views;
+
+use crate::call::{Call, Request};
+use crate::random::Random;
+use std::collections::VecDeque;
+
+pub use self::lines::bad_probe_line;
+pub use self::made::{made, Made};
+pub use self::size::{Size, FULL, SMALL};
+pub use self::tables::trips;
+
+/// What every probe can hold. A call that needs more is left out.
+const MOST_DIRECTORY: usize = 8_200;
+const MOST_TABLE: usize = 12_300;
+const MOST_REPLICAS: usize = 60_000;
+const MOST_ANSWERS: usize = 4_100;
+
+/// The first big scene comes early, so that a short run meets one; the others are rare, as they are slow.
+const FIRST_BIG: usize = 400;
+const NEXT_BIG: usize = 2_500;
+
+/// A group of calls that belong together.
+#[derive(Clone, Copy)]
+enum Scene {
+    Build,
+    Damaged,
+    Questions,
+    EveryTrip,
+    Crowd,
+    Views,
+    Edits,
+    Sweep,
+}
+
+/// Each scene with its weight. Some draw one call and some a hundred; the weights even that out.
+const SCENES: [(Scene, usize); 8] = [
+    (Scene::Build, 330),
+    (Scene::Damaged, 280),
+    (Scene::Questions, 22),
+    (Scene::EveryTrip, 4),
+    (Scene::Views, 22),
+    (Scene::Edits, 9),
+    (Scene::Sweep, 2),
+    (Scene::Crowd, 2),
+];
+
+/// An endless row of calls; the same seed and size give the same row.
+pub struct Calls {
+    random: Random,
+    size: Size,
+    waiting: VecDeque<Call>,
+    scenes: usize,
+    given: usize,
+    next_big: usize,
+}
+
+impl Calls {
+    pub fn new(seed: u64, size: Size) -> Calls {
+        Calls {
+            random: Random::new(seed),
+            size,
+            waiting: VecDeque::new(),
+            scenes: 0,
+            given: 0,
+            next_big: FIRST_BIG,
+        }
+    }
+
+    fn scene(&mut self) -> Vec<Call> {
+        if self.size.big && self.given >= self.next_big {
+            self.next_big = self.given + NEXT_BIG;
+            return big::scene(&mut self.random);
+        }
+        // Each kind once at first, so that a short run has them all.
+        let scene = if self.scenes < SCENES.len() { SCENES[self.scenes].0 } else { self.weighted_scene() };
+        self.scenes += 1;
+        let random = &mut self.random;
+        match scene {
+            Scene::Build => builds::scene(random, self.size),
+            Scene::Damaged => damaged::scene(random, self.size),
+            Scene::Questions => questions::scene(random, self.size),
+            Scene::EveryTrip => questions::every_trip_scene(random, self.size),
+            Scene::Crowd if self.size.big => questions::crowd_scene(random, self.size),
+            Scene::Crowd => Vec::new(),
+            Scene::Views => views::scene(random, self.size),
+            Scene::Edits => edits::scene(random, self.size),
+            Scene::Sweep => sweep::scene(random, self.size),
+        }
+    }
+
+    fn weighted_scene(&mut self) -> Scene {
+        let total: usize = SCENES.iter().map(|entry| entry.1).sum();
+        let mut drawn = self.random.below(total);
+        for (scene, weight) in &SCENES {
+            if drawn < *weight {
+                return *scene;
+            }
+            drawn -= *weight;
+        }
+        unreachable!("the weights add up to the total")
+    }
+}
+
+impl Iterator for Calls {
+    type Item = Call;
+
+    fn next(&mut self) -> Option<Call> {
+        loop {
+            if let Some(call) = self.waiting.pop_front() {
+                self.given += 1;
+                return Some(call);
+            }
+            for call in self.scene() {
+                if fits(&call) {
+                    self.waiting.push_back(call);
+                }
+            }
+        }
+    }
+}
+
+/// Whether any probe can hold the call.
+pub fn fits(call: &Call) -> bool {
+    let own = match &call.request {
+        Request::Build { table } => table.len() <= MOST_TABLE,
+        Request::Ask { answers, .. } => answers.len() <= MOST_ANSWERS,
+        _ => true,
+    };
+    own && call.index.directory.len() <= MOST_DIRECTORY
+        && call.index.originals.len() <= MOST_TABLE
+        && call.index.replicas.len() <= MOST_REPLICAS
+}

@@ -1,0 +1,100 @@
+//! Questions over lawful indices: every code, windows at the turns, answer lists of every length.
+
+use super::buffers::dirty;
+use super::made::{made, made_of, Made};
+use super::rulers::width;
+use super::size::Size;
+use super::tables::{ids, spread_trips};
+use super::times::window;
+use crate::call::{Call, Request};
+use crate::model::ask::matches;
+use crate::model::relation::CODES;
+use crate::model::trip::Trip;
+use crate::random::Random;
+
+const G_OVERLAPS: u32 = 13;
+
+pub fn scene(random: &mut Random, size: Size) -> Vec<Call> {
+    let made = made(random, size);
+    every_code(random, size, &made)
+}
+
+/// Some hundred trips on many levels.
+pub fn crowd_scene(random: &mut Random, size: Size) -> Vec<Call> {
+    let m = random.between(4, size.deepest);
+    let w = width(random, m);
+    let many = random.between(100, 300) as usize;
+    let trips = spread_trips(random, w, m, many);
+    let made = made_of(random, size, w, m, trips);
+    every_code(random, size, &made)
+}
+
+/// Every trip that a small ruler has, asked with any of its windows.
+pub fn every_trip_scene(random: &mut Random, size: Size) -> Vec<Call> {
+    let w = random.between(1, if size.big { 3 } else { 2 });
+    let m = random.between(0, w);
+    let mut spans = Vec::new();
+    for start in 0..1u32 << w {
+        for end in start..1u32 << w {
+            spans.push((start, end));
+        }
+    }
+    let names = ids(random, spans.len());
+    let trips = (0..spans.len()).map(|k| Trip { id: names[k], start: spans[k].0, end: spans[k].1 }).collect();
+    let made = made_of(random, size, w, m, trips);
+    let mut calls = Vec::new();
+    for _ in 0..20 {
+        let (start, end) = random.pick(&spans);
+        let any = random.between(0, CODES - 1);
+        let code = random.pick(&[any, any, G_OVERLAPS]);
+        calls.push(question(random, size, &made, code, start, end));
+    }
+    calls
+}
+
+/// All codes over one index, in some order, and one that there is not. Code 13 has a way of its own past
+/// comparisons, so it comes more often.
+fn every_code(random: &mut Random, size: Size, made: &Made) -> Vec<Call> {
+    let mut codes: Vec<u32> = (0..CODES).collect();
+    codes.extend(&[G_OVERLAPS; 6]);
+    codes.push(bad_code(random));
+    random.shuffle(&mut codes);
+    let same_window = random.once_in(4);
+    let first = window(random, made.w, made.m, &made.trips);
+    let mut calls = Vec::new();
+    for code in codes {
+        let (start, end) = if same_window { first } else { window(random, made.w, made.m, &made.trips) };
+        calls.push(question(random, size, made, code, start, end));
+    }
+    calls
+}
+
+pub fn bad_code(random: &mut Random) -> u32 {
+    random.pick(&[14, 15, 16, 1 << 4 | 13, 256, 1 << 31, u32::MAX])
+}
+
+pub fn any_code(random: &mut Random) -> u32 {
+    match random.below(12) {
+        0 => bad_code(random),
+        1 | 2 => G_OVERLAPS,
+        _ => random.between(0, CODES - 1),
+    }
+}
+
+pub fn question(random: &mut Random, size: Size, made: &Made, code: u32, start: u32, end: u32) -> Call {
+    let found = if code < CODES { matches(code, start, end, &made.trips).len() } else { 0 };
+    let length = match random.below(8) {
+        0 | 1 | 2 => found,
+        3 => found.saturating_sub(1),
+        4 => 0,
+        5 => found + 1,
+        _ => found + random.below(size.spare + 1),
+    };
+    let answers = dirty(random, length);
+    Call {
+        w: made.w,
+        m: made.m,
+        request: Request::Ask { code, start, end, answers },
+        index: made.index.clone(),
+    }
+}

@@ -1,0 +1,148 @@
+//! Lawful tables: times on the ruler, no trip backward, no id twice.
+
+use super::times::span;
+use crate::model::trip::Trip;
+use crate::random::Random;
+
+/// Up to `most` trips. The styles crowd trips into few slots, where the orders by start, by end and by id
+/// can differ.
+pub fn trips(random: &mut Random, w: u32, m: u32, most: usize) -> Vec<Trip> {
+    let many = match random.below(10) {
+        0 => 0,
+        1 => 1,
+        2 => 2,
+        _ => random.below(most + 1),
+    };
+    let ids = ids(random, many);
+    let style = random.below(9);
+    let crowds = crowds(random, m);
+    let fixed = span(random, w, m, &[]);
+    let last = (1u32 << w) - 1;
+    let mut found: Vec<Trip> = Vec::new();
+    let mut known = Vec::new();
+    for id in ids {
+        let crowd = random.pick(&crowds);
+        let (start, end) = match style {
+            0 | 1 => crowded(random, w, m, crowd),
+            2 => crowded(random, w, m, widest_crowd(m)),
+            3 => from_start(random, w, m, fixed.0),
+            4 => to_end(random, w, m, fixed.1),
+            5 if random.once_in(3) => (0, last),
+            6 if random.once_in(2) => point(random, w, m, &known),
+            _ => span(random, w, m, &known),
+        };
+        known.push(start);
+        known.push(end);
+        found.push(Trip { id, start, end });
+    }
+    found
+}
+
+/// Many trips all over the ruler, most of them short, so that all levels are in use.
+pub fn spread_trips(random: &mut Random, w: u32, m: u32, many: usize) -> Vec<Trip> {
+    let last = (1u32 << w) - 1;
+    let mut found: Vec<Trip> = Vec::new();
+    let mut known = Vec::new();
+    for id in ids(random, many) {
+        let (start, mut end) = span(random, w, m, &known);
+        if random.once_in(2) {
+            let longest = 1u32 << random.between(0, w);
+            end = start + random.between(0, longest).min(last - start);
+        }
+        known.push(start);
+        known.push(end);
+        found.push(Trip { id, start, end });
+    }
+    found
+}
+
+/// Ids without a repetition, in several manners: rising, falling, mixed, any words, and the extremes.
+pub fn ids(random: &mut Random, many: usize) -> Vec<u32> {
+    let manner = random.below(5);
+    let base = random.below(4) as u32;
+    let mut found: Vec<u32> = Vec::new();
+    while found.len() < many {
+        let next = found.len() as u32;
+        let any = random.word();
+        let id = match manner {
+            0 => base + next,
+            1 => u32::MAX - next,
+            2 => base + random.below(2 * many) as u32,
+            3 => random.pick(&[0, 1, u32::MAX, u32::MAX - 1, 1 << 31, (1 << 31) - 1, any, any]),
+            _ => any,
+        };
+        if !found.contains(&id) {
+            found.push(id);
+        }
+    }
+    if manner == 0 && random.once_in(2) {
+        found.reverse();
+    }
+    found
+}
+
+/// A few pairs of level-m cells, first and last, that many trips share.
+fn crowds(random: &mut Random, m: u32) -> Vec<(u32, u32)> {
+    let last = (1u32 << m) - 1;
+    let mut found = vec![widest_crowd(m)];
+    for _ in 0..2 {
+        let one = random.between(0, last);
+        let other = random.between(0, last);
+        found.push(if one <= other { (one, other) } else { (other, one) });
+    }
+    found
+}
+
+/// The cells of a trip that lies in as many partitions as can be.
+fn widest_crowd(m: u32) -> (u32, u32) {
+    if m < 2 {
+        (0, (1 << m) - 1)
+    } else {
+        (1, (1 << m) - 2)
+    }
+}
+
+/// Start somewhere in the first cell and end somewhere in the last, with many equal times among them.
+fn crowded(random: &mut Random, w: u32, m: u32, cells: (u32, u32)) -> (u32, u32) {
+    let start = in_cell(random, w, m, cells.0);
+    let end = in_cell(random, w, m, cells.1);
+    if start <= end {
+        (start, end)
+    } else {
+        (end, start)
+    }
+}
+
+fn in_cell(random: &mut Random, w: u32, m: u32, cell: u32) -> u32 {
+    let times = 1u32 << (w - m);
+    let offset = match random.below(4) {
+        0 => 0,
+        1 => times - 1,
+        2 => 1 % times,
+        _ => random.between(0, times - 1),
+    };
+    cell * times + offset
+}
+
+fn from_start(random: &mut Random, w: u32, m: u32, start: u32) -> (u32, u32) {
+    let (_, end) = span(random, w, m, &[start]);
+    if end < start {
+        (start, start)
+    } else {
+        (start, end)
+    }
+}
+
+fn to_end(random: &mut Random, w: u32, m: u32, end: u32) -> (u32, u32) {
+    let (start, _) = span(random, w, m, &[end]);
+    if start > end {
+        (end, end)
+    } else {
+        (start, end)
+    }
+}
+
+fn point(random: &mut Random, w: u32, m: u32, known: &[u32]) -> (u32, u32) {
+    let (start, _) = span(random, w, m, known);
+    (start, start)
+}

@@ -1,0 +1,62 @@
+//! Check, and the opening that all calls on an index share: 1, 3, 8.
+
+use super::build::build;
+use super::index::{directory_length, partitions, refusal, Index, Reply, ACCEPTED};
+use super::ruler::in_bounds;
+use super::trip::{trips_of, Trip, ENTRY_WORDS};
+use crate::faults::{planted, Fault};
+
+pub fn check(w: u32, m: u32, index: &Index) -> Reply {
+    match table_of(w, m, index) {
+        Ok(_) => ACCEPTED,
+        Err(refused) => refused,
+    }
+}
+
+/// The trips of an index, in the order of the originals arena; or the refusal.
+///
+/// Refusal 8 is decided by building again. Each trip has exactly one original entry, so if the words are
+/// the index of a table, the entries of the originals arena are that table in some order; and the order
+/// of rows has no influence on the index. So they are an index exactly if this table gives them back.
+pub fn table_of(w: u32, m: u32, index: &Index) -> Result<Vec<Trip>, Reply> {
+    if !in_bounds(w, m) {
+        return Err(refusal(1));
+    }
+    if index.directory.len() != directory_length(m) {
+        return Err(refusal(3));
+    }
+    let total = index.directory[2 * partitions(m)];
+    let total_words = u64::from(total) * ENTRY_WORDS as u64;
+    if total_words > index.originals.len() as u64 {
+        return Err(refusal(8));
+    }
+    let table = &index.originals[..total_words as usize];
+    let mut again = zeros_like(index);
+    if build(w, m, table, &mut again) != ACCEPTED {
+        return Err(refusal(8));
+    }
+    if planted(Fault::SpareUnchecked) {
+        take_spare_words(m, &mut again, index);
+    }
+    if again != *index {
+        return Err(refusal(8));
+    }
+    Ok(trips_of(table))
+}
+
+fn zeros_like(index: &Index) -> Index {
+    Index {
+        directory: vec![0; index.directory.len()],
+        originals: vec![0; index.originals.len()],
+        replicas: vec![0; index.replicas.len()],
+    }
+}
+
+/// Only for the planted fault: makes the words after the last entry equal.
+fn take_spare_words(m: u32, again: &mut Index, index: &Index) {
+    let half = 2 * partitions(m) + 1;
+    let originals = ENTRY_WORDS * again.directory[half - 1] as usize;
+    let replicas = ENTRY_WORDS * again.directory[2 * half - 1] as usize;
+    again.originals[originals..].copy_from_slice(&index.originals[originals..]);
+    again.replicas[replicas..].copy_from_slice(&index.replicas[replicas..]);
+}

@@ -1,0 +1,76 @@
+//! Add and remove: after an accepted edit the words are those of the edited table, built anew.
+
+use super::build::row_refusal;
+use super::check::table_of;
+use super::index::{refusal, Index, Reply, ACCEPTED};
+use super::layout::{lay_out, slots, words};
+use super::ruler::MOST_TRIPS;
+use super::trip::Trip;
+use crate::faults::{planted, Fault};
+
+/// Add: 1, 3, 8, 2, 4, 5, 6, 11, 7.
+pub fn add(w: u32, m: u32, trip: Trip, index: &mut Index) -> Reply {
+    let mut trips = match table_of(w, m, index) {
+        Ok(trips) => trips,
+        Err(refused) => return refused,
+    };
+    if trips.len() == MOST_TRIPS {
+        return refusal(2);
+    }
+    if let Some(number) = row_refusal(w, m, &trip, &trips) {
+        return refusal(number);
+    }
+    trips.push(trip);
+    match lay_out(w, m, &trips, index.originals.len(), index.replicas.len()) {
+        None => refusal(7),
+        Some(words) => {
+            *index = words;
+            if planted(Fault::EndOfSlot) {
+                move_to_slot_ends(w, m, &trips, index);
+            }
+            ACCEPTED
+        }
+    }
+}
+
+/// Remove: 1, 3, 8, 10.
+pub fn remove(w: u32, m: u32, id: u32, index: &mut Index) -> Reply {
+    let mut trips = match table_of(w, m, index) {
+        Ok(trips) => trips,
+        Err(refused) => return refused,
+    };
+    let row = match trips.iter().position(|trip| trip.id == id) {
+        Some(row) => row,
+        None => return refusal(10),
+    };
+    trips.remove(row);
+    let mut edited = match lay_out(w, m, &trips, index.originals.len(), index.replicas.len()) {
+        Some(words) => words,
+        None => unreachable!("fewer trips never need more room"),
+    };
+    if planted(Fault::OldWords) {
+        leave_old_words(trips.len(), &mut edited, index);
+    }
+    *index = edited;
+    ACCEPTED
+}
+
+/// Only for the planted fault: the last of the trips goes to the end of each of its slots.
+fn move_to_slot_ends(w: u32, m: u32, trips: &[Trip], index: &mut Index) {
+    let added = trips[trips.len() - 1];
+    let mut filled = slots(w, m, trips);
+    for slot in filled.originals.iter_mut().chain(filled.replicas.iter_mut()) {
+        if let Some(position) = slot.iter().position(|trip| trip.id == added.id) {
+            let trip = slot.remove(position);
+            slot.push(trip);
+        }
+    }
+    if let Some(words) = words(&filled, index.originals.len(), index.replicas.len()) {
+        *index = words;
+    }
+}
+
+/// Only for the planted fault: the words behind the entries that are left stay as they were.
+fn leave_old_words(left: usize, edited: &mut Index, before: &Index) {
+    edited.originals[3 * left..].copy_from_slice(&before.originals[3 * left..]);
+}

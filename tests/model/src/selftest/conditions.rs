@@ -1,0 +1,196 @@
+//! Refusal 8 said in another way: as conditions on the words. All together must agree with the model. With
+//! one left out the two must differ on some drawn call: a check that forgets it would then be noticed.
+
+use super::report::Report;
+use crate::call::Request;
+use crate::generate::{Calls, FULL, SMALL};
+use crate::model::check::check;
+use crate::model::index::{directory_length, Index};
+use crate::model::places::places;
+use crate::model::ruler::{in_bounds, MOST_TRIPS};
+use crate::model::trip::{trips_of, Trip};
+
+#[derive(Clone, Copy, Debug, PartialEq)]
+enum Condition {
+    StartsAtZero,
+    NeverFalls,
+    Fits,
+    SpareOriginals,
+    SpareReplicas,
+    MostTrips,
+    OnRuler,
+    Forward,
+    OriginalPlace,
+    OriginalOrder,
+    IdsDiffer,
+    ReplicaPlace,
+    ReplicaKnown,
+    ReplicaInOrder,
+    ReplicaAftOrder,
+    ReplicaCount,
+}
+
+use self::Condition::*;
+
+const ALL: [Condition; 16] = [
+    StartsAtZero,
+    NeverFalls,
+    Fits,
+    SpareOriginals,
+    SpareReplicas,
+    MostTrips,
+    OnRuler,
+    Forward,
+    OriginalPlace,
+    OriginalOrder,
+    IdsDiffer,
+    ReplicaPlace,
+    ReplicaKnown,
+    ReplicaInOrder,
+    ReplicaAftOrder,
+    ReplicaCount,
+];
+
+const CALLS: usize = 6_000;
+
+pub fn conditions(report: &mut Report) {
+    for size in [FULL, SMALL] {
+        let mut noticed = [0; ALL.len()];
+        for call in Calls::new(31, size).take(CALLS) {
+            let (w, m, index) = (call.w, call.m, &call.index);
+            let is_build = matches!(call.request, Request::Build { .. });
+            if is_build || !in_bounds(w, m) || index.directory.len() != directory_length(m) {
+                continue;
+            }
+            let right = check(w, m, index).number == 0;
+            report.expect(passes(w, m, index, None) == right, "the conditions agree with the model");
+            // Large indices are slow, and only one condition is about them.
+            let large = index.originals.len() > 3_000;
+            for (times, condition) in noticed.iter_mut().zip(&ALL) {
+                if large && *condition != MostTrips {
+                    continue;
+                }
+                if passes(w, m, index, Some(*condition)) != right {
+                    *times += 1;
+                }
+            }
+        }
+        for (times, condition) in noticed.iter().zip(&ALL) {
+            let needs_big = *condition == MostTrips && !size.big;
+            report.expect(*times > 0 || needs_big, &format!("a check without {:?} is noticed", condition));
+        }
+    }
+}
+
+/// One half of the directory and its arena.
+struct Half<'a> {
+    words: &'a [u32],
+    arena: &'a [u32],
+}
+
+impl<'a> Half<'a> {
+    fn total(&self) -> usize {
+        self.words[self.words.len() - 1] as usize
+    }
+
+    /// The entries of a slot as far as there are any: with a condition left out, the words may say anything.
+    fn slot(&self, number: usize) -> Vec<Trip> {
+        let entries = self.arena.len() / 3;
+        let first = (self.words[number] as usize).min(entries);
+        let end = (self.words[number + 1] as usize).min(entries);
+        trips_of(&self.arena[3 * first..3 * end.max(first)])
+    }
+
+    fn slots(&self) -> usize {
+        self.words.len() - 1
+    }
+
+    fn starts_at_zero(&self) -> bool {
+        self.words[0] == 0
+    }
+
+    fn never_falls(&self) -> bool {
+        self.words.windows(2).all(|pair| pair[0] <= pair[1])
+    }
+
+    fn fits(&self) -> bool {
+        3 * self.total() <= self.arena.len()
+    }
+
+    fn spare_is_zero(&self) -> bool {
+        self.arena.iter().skip(3 * self.total()).all(|word| *word == 0)
+    }
+}
+
+fn passes(w: u32, m: u32, index: &Index, without: Option<Condition>) -> bool {
+    let (first, second) = index.directory.split_at(index.directory.len() / 2);
+    let originals = Half { words: first, arena: &index.originals };
+    let replicas = Half { words: second, arena: &index.replicas };
+    let asked = |condition: Condition| without != Some(condition);
+    let mut trips: Vec<Trip> = Vec::new();
+    let mut wanted = 0;
+    for number in 0..originals.slots() {
+        let slot = originals.slot(number);
+        if asked(OriginalOrder) && !slot.windows(2).all(|pair| start_id(&pair[0]) < start_id(&pair[1])) {
+            return false;
+        }
+        for trip in &slot {
+            let on_ruler = trip.start < 1 << w && trip.end < 1 << w;
+            if asked(OnRuler) && !on_ruler || asked(Forward) && trip.start > trip.end {
+                return false;
+            }
+            if asked(OriginalPlace) && !lies_in(w, m, trip, number, true) {
+                return false;
+            }
+            wanted += places(w, m, trip).iter().filter(|place| !place.original).count();
+        }
+        trips.extend(slot);
+    }
+    for number in 0..replicas.slots() {
+        let slot = replicas.slot(number);
+        let in_order = number % 2 == 1 || slot.windows(2).all(|pair| end_id(&pair[0]) < end_id(&pair[1]));
+        let aft_order = number % 2 == 0 || slot.windows(2).all(|pair| pair[0].id < pair[1].id);
+        if asked(ReplicaInOrder) && !in_order || asked(ReplicaAftOrder) && !aft_order {
+            return false;
+        }
+        for trip in &slot {
+            if asked(ReplicaPlace) && !lies_in(w, m, trip, number, false) {
+                return false;
+            }
+            if asked(ReplicaKnown) && !trips.contains(trip) {
+                return false;
+            }
+        }
+    }
+    let halves = [&originals, &replicas];
+    (!asked(StartsAtZero) || halves.iter().all(|half| half.starts_at_zero()))
+        && (!asked(NeverFalls) || halves.iter().all(|half| half.never_falls()))
+        && (!asked(Fits) || halves.iter().all(|half| half.fits()))
+        && (!asked(SpareOriginals) || originals.spare_is_zero())
+        && (!asked(SpareReplicas) || replicas.spare_is_zero())
+        && (!asked(MostTrips) || trips.len() <= MOST_TRIPS)
+        && (!asked(IdsDiffer) || ids_differ(&trips))
+        && (!asked(ReplicaCount) || replicas.total() == wanted)
+}
+
+fn start_id(trip: &Trip) -> (u32, u32) {
+    (trip.start, trip.id)
+}
+
+fn end_id(trip: &Trip) -> (u32, u32) {
+    (trip.end, trip.id)
+}
+
+/// Whether the trip belongs into this slot of its half.
+fn lies_in(w: u32, m: u32, trip: &Trip, slot: usize, original: bool) -> bool {
+    places(w, m, trip).iter().any(|place| {
+        let number = (1usize << place.level) - 1 + place.partition as usize;
+        place.original == original && slot == 2 * number + if place.inside { 0 } else { 1 }
+    })
+}
+
+fn ids_differ(trips: &[Trip]) -> bool {
+    let mut ids: Vec<u32> = trips.iter().map(|trip| trip.id).collect();
+    ids.sort();
+    ids.windows(2).all(|pair| pair[0] != pair[1])
+}

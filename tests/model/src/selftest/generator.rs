@@ -1,0 +1,44 @@
+//! The drawn calls themselves: they fit every probe, their lines read back, and they bring about every
+//! answer that there is.
+
+use super::report::Report;
+use crate::call::{probe_answer, Call};
+use crate::generate::{bad_probe_line, fits, Calls, FULL, SMALL};
+use crate::random::Random;
+use crate::trials::tally_of;
+
+/// The numbers that each call can answer. Refusal 11 can't be met.
+const ANSWERS: [(&str, &[u32]); 7] = [
+    ("build", &[0, 1, 2, 3, 4, 5, 6, 7]),
+    ("check", &[0, 1, 3, 8]),
+    ("add", &[0, 1, 2, 3, 4, 5, 6, 7, 8]),
+    ("remove", &[0, 1, 3, 8, 10]),
+    ("ask", &[0, 1, 3, 4, 5, 7, 8, 9]),
+    ("run", &[0, 1, 3, 8, 12]),
+    ("census", &[0, 1, 3, 8]),
+];
+
+pub fn generator(report: &mut Report) {
+    let mut random = Random::new(2);
+    for size in [FULL, SMALL] {
+        for call in Calls::new(21, size).take(1_500) {
+            let line = call.line();
+            report.expect(fits(&call), "a call fits every probe");
+            report.expect(Call::read(&line) == Some(call.clone()), "a line reads back");
+            let bad = bad_probe_line(&mut random, &call);
+            report.expect(probe_answer(&bad) == "bad line", &format!("is malformed: {}", bad));
+            report.expect(call.m <= 10 || call.answer().starts_with("1 0"), "m above 10 is refused");
+        }
+        let twice: Vec<Call> = Calls::new(22, size).take(300).collect();
+        report.expect(Calls::new(22, size).take(300).eq(twice), "a seed gives the same calls again");
+        let tally = tally_of(Calls::new(23, size), 4_000);
+        for (name, numbers) in &ANSWERS {
+            for number in *numbers {
+                // 2 of an addition needs 4,096 trips.
+                let reached = tally.contains_key(&(name.to_string(), number.to_string()));
+                let too_big = !size.big && *name == "add" && *number == 2;
+                report.expect(reached || too_big, &format!("{} answers {}", name, number));
+            }
+        }
+    }
+}

@@ -1,0 +1,39 @@
+//! The model tried against document 01's examples and against properties that must hold of it.
+
+mod conditions;
+mod examples;
+mod generator;
+mod places;
+mod properties;
+mod readings;
+mod report;
+mod search;
+mod sessions;
+
+use self::report::Report;
+
+pub fn selftest() -> bool {
+    let groups: [(&str, fn(&mut Report)); 8] = [
+        ("examples of document 01", examples::examples),
+        ("readings of unclear places", readings::readings),
+        ("session program", sessions::sessions),
+        ("partitions of a trip", places::places_of_trips),
+        ("builds, edits and questions", properties::properties),
+        ("refusal 8 against a search of all tables", search::search),
+        ("refusal 8 against conditions on the words", conditions::conditions),
+        ("drawn calls", generator::generator),
+    ];
+    let mut all = true;
+    for (name, group) in &groups {
+        let mut report = Report::default();
+        group(&mut report);
+        all = report.close(name) && all;
+    }
+    println!("{}", if all { "selftest: good" } else { "selftest: FAILED" });
+    all
+}
+
+#[test]
+fn selftest_is_good() {
+    assert!(selftest());
+}

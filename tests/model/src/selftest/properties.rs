@@ -1,0 +1,152 @@
+//! Properties over drawn tables: builds pass the check, edits equal builds, questions equal a scan that is
+//! written in another way, runs and census equal the slots.
+
+use super::report::Report;
+use crate::generate::{made, trips, Made, FULL};
+use crate::model::ask::ask;
+use crate::model::build::build;
+use crate::model::check::check;
+use crate::model::edit::{add, remove};
+use crate::model::index::{Index, ACCEPTED};
+use crate::model::layout::slots;
+use crate::model::trip::{words_of, Trip};
+use crate::model::view::{census, run};
+use crate::random::Random;
+use std::cmp::Ordering;
+
+pub fn properties(report: &mut Report) {
+    let mut random = Random::new(11);
+    for _ in 0..300 {
+        let made = made(&mut random, FULL);
+        builds_pass(report, &mut random, &made);
+        questions_equal_a_scan(report, &mut random, &made);
+        runs_equal_the_slots(report, &made);
+    }
+    for _ in 0..60 {
+        history_equals_build(report, &mut random);
+    }
+}
+
+fn builds_pass(report: &mut Report, random: &mut Random, made: &Made) {
+    report.expect(check(made.w, made.m, &made.index) == ACCEPTED, "an index that was laid out passes");
+    let mut rows = made.trips.clone();
+    random.shuffle(&mut rows);
+    let again = built(made.w, made.m, &rows, &made.index);
+    report.expect(again == Some(made.index.clone()), "the order of rows has no influence");
+}
+
+/// The build of these trips into dirty buffers as long as those of `like`.
+fn built(w: u32, m: u32, trips: &[Trip], like: &Index) -> Option<Index> {
+    let mut index = Index {
+        directory: vec![9; like.directory.len()],
+        originals: vec![9; like.originals.len()],
+        replicas: vec![9; like.replicas.len()],
+    };
+    if build(w, m, &words_of(trips), &mut index) == ACCEPTED {
+        Some(index)
+    } else {
+        None
+    }
+}
+
+/// Additions and removals, each followed by a build of the trips that there should be. The trips are kept
+/// here in a list of their own and never read from the index.
+fn history_equals_build(report: &mut Report, random: &mut Random) {
+    let first = made(random, FULL);
+    let mut present = first.trips.clone();
+    let mut index = first.index.clone();
+    let (w, m) = (first.w, first.m);
+    for new in trips(random, w, m, 20) {
+        let before = index.clone();
+        let wanted: Vec<Trip> = present.iter().cloned().chain(Some(new)).collect();
+        let reply = add(w, m, new, &mut index);
+        match built(w, m, &wanted, &index) {
+            Some(again) => {
+                report.expect(reply == ACCEPTED && index == again, "an addition equals a build");
+                present = wanted;
+            }
+            None => report.expect(reply.number != 0 && index == before, "a refused addition leaves the words"),
+        }
+        if !present.is_empty() && random.once_in(2) {
+            let row = random.below(present.len());
+            let gone = present.remove(row);
+            let reply = remove(w, m, gone.id, &mut index);
+            let again = built(w, m, &present, &index);
+            report.expect(reply == ACCEPTED && Some(index.clone()) == again, "a removal equals a build");
+        }
+        report.expect(check(w, m, &index) == ACCEPTED, "an edited index passes");
+    }
+}
+
+fn questions_equal_a_scan(report: &mut Report, random: &mut Random, made: &Made) {
+    for code in 0..14 {
+        let last = (1u32 << made.w) - 1;
+        let (mut start, mut end) = (random.between(0, last), random.between(0, last));
+        if !made.trips.is_empty() && !random.once_in(3) {
+            start = random.pick(&made.trips).start;
+            let trip = random.pick(&made.trips);
+            end = if random.once_in(2) { trip.start } else { trip.end };
+        }
+        if start > end {
+            let earlier = end;
+            end = start;
+            start = earlier;
+        }
+        let mut right: Vec<u32> =
+            made.trips.iter().filter(|trip| stands_so(code, start, end, trip)).map(|trip| trip.id).collect();
+        right.sort();
+        let mut answers = vec![123; right.len() + 1];
+        let (reply, count) = ask(made.w, made.m, code, start, end, &made.index, &mut answers);
+        let same = reply == ACCEPTED && count as usize == right.len() && answers[..right.len()] == right[..];
+        report.expect(same && answers[right.len()] == 123, &format!("code {} equals a scan", code));
+    }
+}
+
+/// The relationships said a second time, by how start stands to start, end to end and so on. Each of the
+/// first thirteen is one of Allen's, so the four comparisons settle it.
+fn stands_so(code: u32, start: u32, end: u32, trip: &Trip) -> bool {
+    use self::Ordering::{Equal, Greater, Less};
+    let starts = start.cmp(&trip.start);
+    let ends = end.cmp(&trip.end);
+    let end_to_start = end.cmp(&trip.start);
+    let start_to_end = start.cmp(&trip.end);
+    match code {
+        0 => (starts, ends) == (Equal, Equal),
+        1 => (starts, ends) == (Equal, Less),
+        2 => (starts, ends) == (Equal, Greater),
+        3 => (starts, ends) == (Greater, Equal),
+        4 => (starts, ends) == (Less, Equal),
+        5 => end_to_start == Equal,
+        6 => start_to_end == Equal,
+        7 => (starts, ends, end_to_start) == (Less, Less, Greater),
+        8 => (starts, ends, start_to_end) == (Greater, Greater, Less),
+        9 => (starts, ends) == (Less, Greater),
+        10 => (starts, ends) == (Greater, Less),
+        11 => end_to_start == Less,
+        12 => start_to_end == Greater,
+        _ => end_to_start != Less && start_to_end != Greater,
+    }
+}
+
+/// The runs, one after the other, are the arenas; the census counts them.
+fn runs_equal_the_slots(report: &mut Report, made: &Made) {
+    if made.m > 6 {
+        return; // each run checks the whole index: too slow on deep levels
+    }
+    let filled = slots(made.w, made.m, &made.trips);
+    let mut counts = [[0; 4]; 11];
+    let mut slot = 0;
+    for level in 0..=made.m {
+        for partition in 0..1u32 << level {
+            for subdivision in 0..4 {
+                let half = if subdivision < 2 { &filled.originals } else { &filled.replicas };
+                let right = words_of(&half[slot + subdivision as usize % 2]);
+                counts[level as usize][subdivision as usize] += right.len() as u32 / 3;
+                let given = run(made.w, made.m, level, partition, subdivision, &made.index);
+                report.expect(given == (ACCEPTED, right), "a run is its slot");
+            }
+            slot += 2;
+        }
+    }
+    report.expect(census(made.w, made.m, &made.index) == (ACCEPTED, counts), "the census counts the runs");
+}

@@ -1,0 +1,87 @@
+//! Refusal 8 by its own sentence, on rulers so small that all tables can be tried: words are an index
+//! exactly if some table that build accepts gives them.
+
+use super::report::Report;
+use crate::model::build::build;
+use crate::model::check::check;
+use crate::model::index::{directory_length, refusal, Index, ACCEPTED};
+use crate::random::Random;
+
+/// The ids that tables are made of. Changed words may hold others; then no table gives them, except where
+/// such a word is an id of the changed index, so changes keep to these words for ids.
+const IDS: [u32; 3] = [0, 1, 7];
+
+pub fn search(report: &mut Report) {
+    for (w, m, originals, replicas) in [(1, 0, 6, 0), (1, 1, 6, 2), (2, 1, 7, 3), (2, 2, 6, 7)] {
+        let all = all_indices(w, m, originals, replicas);
+        let mut random = Random::new(3);
+        for index in &all {
+            report.expect(check(w, m, index) == ACCEPTED, "a built index passes");
+            for _ in 0..60 {
+                let changed = changed(&mut random, index);
+                let right = if all.contains(&changed) { ACCEPTED } else { refusal(8) };
+                let what = format!("w = {}, m = {}: {:?} is an index or not", w, m, changed);
+                report.expect(check(w, m, &changed) == right, &what);
+            }
+        }
+    }
+}
+
+/// The index of every table of at most two rows with these ids, in arenas of these lengths. The lengths
+/// have no room for a third.
+fn all_indices(w: u32, m: u32, originals: usize, replicas: usize) -> Vec<Index> {
+    let mut rows = Vec::new();
+    for id in IDS {
+        for start in 0..1u32 << w {
+            for end in 0..1u32 << w {
+                rows.push(vec![id, start, end]);
+            }
+        }
+    }
+    let mut tables = vec![Vec::new()];
+    for one in &rows {
+        tables.push(one.clone());
+        for other in &rows {
+            tables.push([&one[..], &other[..]].concat());
+        }
+    }
+    let mut found: Vec<Index> = Vec::new();
+    for table in tables {
+        let mut index = Index {
+            directory: vec![0; directory_length(m)],
+            originals: vec![0; originals],
+            replicas: vec![0; replicas],
+        };
+        if build(w, m, &table, &mut index) == ACCEPTED && !found.contains(&index) {
+            found.push(index);
+        }
+    }
+    found
+}
+
+/// One to four words changed to small ones: this often gives another index. The word 7 is an id and no
+/// time of these rulers.
+fn changed(random: &mut Random, index: &Index) -> Index {
+    let mut other = index.clone();
+    let lengths = [other.directory.len(), other.originals.len(), other.replicas.len()];
+    for _ in 0..random.between(1, 4) {
+        let k = random.below(lengths[0] + lengths[1] + lengths[2]);
+        if k < lengths[0] {
+            other.directory[k] = random.between(0, 2);
+        } else if k < lengths[0] + lengths[1] {
+            other.originals[k - lengths[0]] = small_word(random, k - lengths[0]);
+        } else {
+            let at = k - lengths[0] - lengths[1];
+            other.replicas[at] = small_word(random, at);
+        }
+    }
+    other
+}
+
+fn small_word(random: &mut Random, at: usize) -> u32 {
+    if at % 3 == 0 {
+        random.pick(&IDS)
+    } else {
+        random.between(0, 4)
+    }
+}

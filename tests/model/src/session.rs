@@ -1,0 +1,158 @@
+//! Document 01's session program, as a function from input bytes to output bytes.
+
+use crate::faults::{planted, Fault};
+use crate::model::ask::ask;
+use crate::model::edit::{add, remove};
+use crate::model::index::{directory_length, Index, Reply};
+use crate::model::ruler::in_bounds;
+use crate::model::trip::{Trip, ENTRY_WORDS};
+
+const MOST_ORIGINALS: usize = 256;
+const MOST_REPLICAS: usize = 3328;
+const MOST_ANSWERS: usize = 256;
+const DEEPEST: u32 = 8;
+
+/// A line of the right form. Which lines may come when is not a matter of form.
+enum Line {
+    Ruler { w: u32, m: u32 },
+    Add { trip: Trip },
+    Remove { id: u32 },
+    Ask { code: u32, start: u32, end: u32 },
+}
+
+struct Open {
+    w: u32,
+    m: u32,
+    index: Index,
+}
+
+/// Every line that is written ends with a newline, the last one too.
+pub fn session(input: &[u8]) -> Vec<u8> {
+    let mut output = Vec::new();
+    let mut open: Option<Open> = None;
+    for bytes in lines(input) {
+        let (text, ends) = match line(bytes) {
+            None => bad_line(),
+            Some(line) => answer(line, &mut open),
+        };
+        output.extend(text.as_bytes());
+        output.push(b'\n');
+        if ends {
+            break;
+        }
+    }
+    output
+}
+
+fn bad_line() -> (String, bool) {
+    ("bad line".to_string(), true)
+}
+
+/// "Lines are parted by one newline, which the last may lack": what stands behind the last newline is a
+/// line only if it has bytes. So no input is no line, and a lone newline is one empty line.
+fn lines(input: &[u8]) -> Vec<&[u8]> {
+    let mut found: Vec<&[u8]> = input.split(|byte| *byte == b'\n').collect();
+    if found.last().map_or(false, |last| last.is_empty()) {
+        found.pop();
+    }
+    found
+}
+
+fn line(bytes: &[u8]) -> Option<Line> {
+    let bytes = if planted(Fault::SessionReturn) && bytes.ends_with(b"\r") {
+        &bytes[..bytes.len() - 1]
+    } else {
+        bytes
+    };
+    let fields: Vec<&[u8]> = bytes.split(|byte| *byte == b' ').collect();
+    let mut numbers = Vec::new();
+    for field in &fields[1..] {
+        numbers.push(number(field)?);
+    }
+    match (fields[0], &numbers[..]) {
+        (b"D", [_, m]) if *m > DEEPEST => None,
+        (b"D", [w, m]) => Some(Line::Ruler { w: *w, m: *m }),
+        (b"T", [id, start, end]) => Some(Line::Add { trip: Trip { id: *id, start: *start, end: *end } }),
+        (b"X", [id]) => Some(Line::Remove { id: *id }),
+        (b"Q", [code, start, end]) => Some(Line::Ask { code: *code, start: *start, end: *end }),
+        _ => None,
+    }
+}
+
+/// A u32 in 1 to 10 decimal digits. Leading zeros are digits like others.
+fn number(field: &[u8]) -> Option<u32> {
+    let most = if planted(Fault::SessionDigits) { 18 } else { 10 };
+    if field.is_empty() || field.len() > most {
+        return None;
+    }
+    let mut value: u64 = 0;
+    for byte in field {
+        if *byte < b'0' || *byte > b'9' {
+            return None;
+        }
+        value = 10 * value + u64::from(*byte - b'0');
+    }
+    if value > u64::from(u32::MAX) {
+        return None;
+    }
+    Some(value as u32)
+}
+
+/// What the line writes, and whether it ends the session.
+fn answer(line: Line, open: &mut Option<Open>) -> (String, bool) {
+    if let Line::Ruler { w, m } = line {
+        return open_with(w, m, open);
+    }
+    let state = match open.as_mut() {
+        None => return bad_line(),
+        Some(state) => state,
+    };
+    let text = match line {
+        Line::Add { trip } => edit_text(add(state.w, state.m, trip, &mut state.index)),
+        Line::Remove { id } => edit_text(remove(state.w, state.m, id, &mut state.index)),
+        Line::Ask { code, start, end } => ask_text(code, start, end, state),
+        Line::Ruler { .. } => unreachable!("answered above"),
+    };
+    (text, false)
+}
+
+/// A second D is malformed; a refused one ends the session.
+fn open_with(w: u32, m: u32, open: &mut Option<Open>) -> (String, bool) {
+    if open.is_some() {
+        return bad_line();
+    }
+    if !in_bounds(w, m) {
+        return ("refused 1".to_string(), true);
+    }
+    *open = Some(Open { w, m, index: empty_index(m) });
+    ("ok".to_string(), false)
+}
+
+fn empty_index(m: u32) -> Index {
+    Index {
+        directory: vec![0; directory_length(m)],
+        originals: vec![0; ENTRY_WORDS * MOST_ORIGINALS],
+        replicas: vec![0; ENTRY_WORDS * MOST_REPLICAS],
+    }
+}
+
+fn edit_text(reply: Reply) -> String {
+    if reply.number == 0 {
+        "ok".to_string()
+    } else {
+        format!("refused {}", reply.number)
+    }
+}
+
+fn ask_text(code: u32, start: u32, end: u32, state: &Open) -> String {
+    let mut answers = vec![0; MOST_ANSWERS];
+    let (reply, count) = ask(state.w, state.m, code, start, end, &state.index, &mut answers);
+    if reply.number != 0 {
+        return edit_text(reply);
+    }
+    let mut text = count.to_string();
+    for id in answers.iter().take(count as usize) {
+        text.push_str(&format!(" {}", id));
+    }
+    text
+}

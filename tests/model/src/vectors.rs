@@ -1,0 +1,44 @@
+//! Calls and sessions with what the model expects, printed or as files.
+
+use crate::faults::with_fault;
+use crate::generate::sessions::session_input;
+use crate::generate::Calls;
+use crate::options::Options;
+use crate::session::session;
+use std::fs::{create_dir_all, write, File};
+use std::io::{self, BufWriter, Write};
+use std::path::Path;
+
+pub fn print(seed: u64, many: usize, options: &Options) -> io::Result<bool> {
+    let output = io::stdout();
+    let mut output = BufWriter::new(output.lock());
+    for call in Calls::new(seed, options.size).take(many) {
+        let expected = with_fault(options.fault, || call.answer());
+        writeln!(output, "{}\n{}", call.line(), expected)?;
+    }
+    output.flush()?;
+    Ok(true)
+}
+
+pub fn write_files(calls: &str, expected: &str, seed: u64, many: usize, options: &Options) -> io::Result<bool> {
+    let mut calls = BufWriter::new(File::create(calls)?);
+    let mut answers = BufWriter::new(File::create(expected)?);
+    for call in Calls::new(seed, options.size).take(many) {
+        writeln!(calls, "{}", call.line())?;
+        writeln!(answers, "{}", with_fault(options.fault, || call.answer()))?;
+    }
+    calls.flush()?;
+    answers.flush()?;
+    Ok(true)
+}
+
+pub fn write_sessions(folder: &str, seed: u64, many: usize, options: &Options) -> io::Result<bool> {
+    create_dir_all(folder)?;
+    for k in 0..many {
+        let input = session_input(seed, k);
+        let output = with_fault(options.fault, || session(&input));
+        write(Path::new(folder).join(format!("{}.in", k)), &input)?;
+        write(Path::new(folder).join(format!("{}.out", k)), &output)?;
+    }
+    Ok(true)
+}
