@@ -86,6 +86,13 @@ pub fn line_end(bytes: &[u8], from: usize) -> usize
     find(bytes, from, NEWLINE)
 }
 
+// Where the field that begins at `from` ends: at the space after it, or at the end of the bytes.
+pub fn field_end(bytes: &[u8], from: usize) -> usize
+    ensures { λ r. ⌜ r ≡ placeOf space (now (bytes .entry)) from ⌝ }
+{
+    find(bytes, from, SPACE)
+}
+
 // A field as a number. The length is judged first: ten digits fit a u64, so the value can be judged once, at the end.
 pub fn number_of(field: &[u8]) -> Number
     ensures { λ r. ⌜ r ≡ numberOf (now (field .entry)) ⌝ }
