@@ -15,6 +15,10 @@ sub-last : tie.Need-sub-last
 unfolding entryWords
 sub-last c = omega (arith, in-words (c .before .before))
 
+add-next : tie.Need-add-next
+unfolding entryWords
+add-next c = omega (arith, in-words (c .before .before))
+
 mul-used : tie.Need-mul-used
 mul-used c = search needs
 
@@ -50,10 +54,6 @@ put-trip-requires : tie.Need-put-trip-requires
 unfolding entryWords
 put-trip-requires c κs = omega (arith, in-words (c .before .before .before .before .before .before .before .before .before), c .before .before .before .open-gap .kept .0)
 
-add-one-more-from : tie.Need-add-one-more-from
-unfolding entryWords
-add-one-more-from c = omega (arith, in-words (c .before .before .before .before .before .before .before .before .before .before .before .before .before))
-
 one-more-from-requires : tie.Need-one-more-from-requires
 one-more-from-requires c κs = λ k h. in-words (c .before .before .before .before .before .before .before .before .before .before .before .before .before) .few k
 
@@ -74,6 +74,7 @@ insert-spec =
     tie.close
     (tie.spec
     sub-last
+    add-next
     mul-used
     slice-read-used
     cast-used
@@ -83,7 +84,6 @@ insert-spec =
     add-at
     open-gap-requires
     put-trip-requires
-    add-one-more-from
     one-more-from-requires
     same-length
     same-length-2
