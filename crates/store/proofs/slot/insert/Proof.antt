@@ -52,10 +52,12 @@ open-gap-requires c κs = omega (arith, in-words (c .before .before .before .bef
 
 put-trip-requires : tie.Need-put-trip-requires
 unfolding entryWords
-put-trip-requires c κs = omega (arith, in-words (c .before .before .before .before .before .before .before .before .before), c .before .before .before .open-gap .kept .0)
+put-trip-requires c κs =
+    omega (arith, in-words (c .before .before .before .before .before .before .before .before .before), c .before .before .before .open-gap .kept .0)
 
 one-more-from-requires : tie.Need-one-more-from-requires
-one-more-from-requires c κs = λ k h. in-words (c .before .before .before .before .before .before .before .before .before .before .before .before .before) .few k
+one-more-from-requires c κs =
+    λ k h. in-words (c .before .before .before .before .before .before .before .before .before .before .before .before .before) .few k
 
 same-length : tie.Need-same-length
 same-length c = search needs
@@ -66,7 +68,9 @@ same-length-2 c = search needs
 returns : tie.Need-returns
 returns c = λ ls r.
     let a = c .before .before .before .before .before .before .before .before .before .before .before .before .before .before .before .before .args in
-    rw (c .before .before .one-more-from .ensures, c .before .before .before .before .before .before .put-trip .ensures, c .before .before .before .before .before .before .before .before .before .before .open-gap .ensures)
+    let after-put = c .before .before .before .before .before .before in
+    let after-gap = c .before .before .before .before .before .before .before .before .before .before in
+    rw (c .before .before .one-more-from .ensures, after-put .put-trip .ensures, after-gap .open-gap .ensures)
     (room-inserted (a .dir .now) (a .arena .now) ls (a .slot) (a .pos) _ _ (a .t) r refl refl)
 
 pub insert-spec : {M : Type 1} → statement M
