@@ -10,3 +10,4 @@ pub mod Sifting
 pub mod Replaced
 pub mod Alike
 pub mod Halving
+pub mod Lent
