@@ -5,7 +5,6 @@ use Prim.Native.Nat.{ℕ, _*_, _/_, _%_, _≤_}
 use native.Mathlib.Omega.{arith}
 use lib.ListN.{length, take, drop, take-append-drop}
 use lib.Seq.{length-take-le, take-at, drop-at}
-use Rattle.trip.specs.declared.Trip.{Trip}
 use Rattle.layout.specs.Words.{entryWords, words, rows}
 use Rattle.layout.proofs.Rows.{whole, whole-rest, length-rows, rows-append, words-rows}
 

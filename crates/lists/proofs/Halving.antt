@@ -9,7 +9,7 @@ use native.Mathlib.Omega.{arith}
 use native.Mathlib.Decide.{decLt}
 use lib.Dec.{T}
 use lib.ListN.{length, getD, take, drop}
-use Rattle.lists.specs.Lists.{consIf, keep, insert}
+use Rattle.lists.specs.Lists.{keep, insert}
 use Rattle.lists.specs.Sifting.{InOrder}
 use Rattle.lists.proofs.Tests.{to-T, of-T, of-no-T}
 use Rattle.lists.proofs.Members.{Pairs, none, more}
@@ -83,9 +83,11 @@ module _ {A : Type 0} (d : A) (p : A → Bool) where
   kept [] zero h low high = refl
   kept [] (suc k) h low high = absurd (omega arith)
   kept (x ∷ l) zero h low high =
-      rw (high 0 (omega arith) (omega arith)) (kept l zero (omega arith) (λ j a. absurd (omega arith)) (λ j a b. high (suc j) (omega arith) (omega arith)))
+      rw (high 0 (omega arith) (omega arith))
+      (kept l zero (omega arith) (λ j a. absurd (omega arith)) (λ j a b. high (suc j) (omega arith) (omega arith)))
   kept (x ∷ l) (suc k) h low high =
-      rw (low 0 (omega arith)) (ap suc (kept l k (omega arith) (λ j a. low (suc j) (omega arith)) (λ j a b. high (suc j) (omega arith) (omega arith))))
+      rw (low 0 (omega arith))
+      (ap suc (kept l k (omega arith) (λ j a. low (suc j) (omega arith)) (λ j a b. high (suc j) (omega arith) (omega arith))))
 
   -- where the two meet, as many pass
   pub between-end : (l : List A) (lo hi : ℕ) → hi ≤ lo → Between d p l lo hi → length (keep p l) ≡ lo
@@ -106,7 +108,8 @@ module _ {A : Type 0} {lt : A → A → Bool} (o : StrictOrder lt) (t : A) where
   unfolding keep
   none-precede {l = []} h c = refl
   none-precede {y} {l = z ∷ l} h c =
-      let later : T (lt t z) = elim c [ inl a ↦ o .trans t y z a (h z (here refl)) | inr e ↦ subst (λ (x : A). T (lt x z)) (sym e) (h z (here refl)) ] in
+      let later : T (lt t z) =
+      elim c [ inl a ↦ o .trans t y z a (h z (here refl)) | inr e ↦ subst (λ (x : A). T (lt x z)) (sym e) (h z (here refl)) ] in
       rw (of-no-T (lt z t) (λ a. o .asym z t a later)) (none-precede (λ u m. h u (there m)) c)
 
   -- put in there, it is put in order
@@ -143,7 +146,8 @@ module _ {A : Type 0} {lt : A → A → Bool} (o : StrictOrder lt) (t : A) where
     remove-at (more {x = y} {l = l} h s) alone (here e) =
         let stays : (u : A) → Mem u l → q u ≡ true = λ u m. is-true (q u) (λ f.
         let b = subst (λ (x : A). T (lt y x)) (alone u (there m) f ∙ e) (h u m) in o .asym y y b b) in
-        rw (of-no-T (lt y t) (λ a. let b = subst (λ (x : A). T (lt x t)) (sym e) a in o .asym t t b b), none-precede h (inr e), sym (ap q e) ∙ out) (sym (keep-all l stays))
+        let not-before : T (lt y t) → ⊥ = λ a. let b = subst (λ (x : A). T (lt x t)) (sym e) a in o .asym t t b b in
+        rw (of-no-T (lt y t) not-before, none-precede h (inr e), sym (ap q e) ∙ out) (sym (keep-all l stays))
       where
         is-true : (b : Bool) → (b ≡ false → ⊥) → b ≡ true
         is-true true f = refl

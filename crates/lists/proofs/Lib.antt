@@ -11,3 +11,4 @@ pub mod Replaced
 pub mod Alike
 pub mod Halving
 pub mod Stores
+pub mod Lent

@@ -1,7 +1,7 @@
 -- Entries in a list of words: what a trip's stores leave, in words and in rows, and the ids of rows.
 use mathlib.Core.Path.{_≡_, sym, ap, ap₂, _∙_}
 use mathlib.Core.List.{List, [], _∷_, _++_, append-assoc}
-use Prim.Native.Nat.{ℕ, suc, _+_, _*_, _/_, _≤_, _<_}
+use Prim.Native.Nat.{ℕ, suc, _+_, _*_, _/_, _<_}
 use native.Mathlib.Omega.{arith}
 use lib.ListN.{length, take, drop, getD, set, length-append}
 use lib.Seq.{sets-eq, take-at, drop-at, take-append-add, drop-append-add, set-split}
@@ -18,13 +18,14 @@ pub put-words : (l : List ℕ) (k : ℕ) (t : Trip) → k < length l / entryWord
     → set (set (set l (entryWords * k) (t .id)) (entryWords * k + 1) (t .start .0)) (entryWords * k + 2) (t .end .0) ≡ put k t l
 unfolding put tripWords entryWords
 put-words l k t h =
-    let a = 3 * k in
+    let a = entryWords * k in
     let one : a + 1 ≡ suc a = omega arith in
     let two : a + 2 ≡ suc (suc a) = omega arith in
     rw (one, two) (sets-eq (t .id ∷ t .start .0 ∷ t .end .0 ∷ []) l a (omega arith) ∙ append-assoc (take a l) _ _)
 
 -- a trip put over the words m of the entry after those of p
-pub put-seam : (p m q : List ℕ) (k : ℕ) (t : Trip) → length p ≡ entryWords * k → length m ≡ entryWords → put k t (p ++ (m ++ q)) ≡ p ++ (tripWords t ++ q)
+pub put-seam : (p m q : List ℕ) (k : ℕ) (t : Trip) → length p ≡ entryWords * k → length m ≡ entryWords
+    → put k t (p ++ (m ++ q)) ≡ p ++ (tripWords t ++ q)
 unfolding put
 put-seam p m q k t e f =
     ap₂ (λ (x y : List ℕ). x ++ (tripWords t ++ y)) (take-at p (m ++ q) (entryWords * k) e)

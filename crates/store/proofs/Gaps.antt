@@ -1,12 +1,11 @@
 -- A gap of one entry: one law for a turn of each loop and one for its end, and what opening and closing do to words with a seam.
-use mathlib.Core.Path.{_≡_, refl, sym, ap, ap₂, _∙_}
+use mathlib.Core.Path.{_≡_, sym, ap, _∙_}
 use mathlib.Core.List.{List, [], _∷_, _++_, append-assoc}
 use Prim.Native.Nat.{ℕ, suc, _+_, _-_, _*_, _≤_, _<_}
 use native.Mathlib.Numerals.{add-one}
-use native.Mathlib.Nat.{not-suc-le-zero, le-of-suc-le-suc}
 use native.Mathlib.Omega.{arith}
-use lib.ListN.{length, getD, take, drop, set, replicate, length-append, length-take, length-drop, take-append-drop}
-use lib.Seq.{slice, slice-empty, slice-cons, take-set-le, take-set-lt, drop-set-lt, take-suc, drop-cons, take-suc-set, drop-append-le, length-take-le}
+use lib.ListN.{length, getD, take, drop, set, replicate, length-append, length-drop, take-append-drop}
+use lib.Seq.{slice, slice-empty, slice-cons, take-set-le, take-set-lt, drop-set-lt, take-suc, take-suc-set, drop-append-le, length-take-le}
 use lib.Seq.{take-at, drop-at, take-append-add, set-split, split-at}
 use borrow.Rule.Slice.PartMut.{putMid, mid-len, post-is}
 use Rattle.trip.specs.declared.Trip.{Trip}
@@ -23,7 +22,8 @@ use Rattle.store.proofs.Entries.{put-seam}
 drop-set : (l : List ℕ) (i v : ℕ) → i < length l → drop i (set l i v) ≡ v ∷ drop (suc i) l
 drop-set l i v h = ap (drop i) (set-split l i v h) ∙ drop-at (take i l) (v ∷ drop (suc i) l) i (length-take-le i l (omega arith))
 
-pub opened-turn : (at i : ℕ) (l : List ℕ) → at ≤ i → i + entryWords < length l → opened at i (set l (i + entryWords) (getD l i 0)) ≡ opened at (i + 1) l
+pub opened-turn : (at i : ℕ) (l : List ℕ) → at ≤ i → i + entryWords < length l
+    → opened at i (set l (i + entryWords) (getD l i 0)) ≡ opened at (i + 1) l
 unfolding opened
 opened-turn at i l h g =
     let v : ℕ = getD l i 0 in
@@ -33,14 +33,16 @@ opened-turn at i l h g =
     let next : suc to ≡ i + 1 + entryWords = omega arith in
     let back : drop to (set l to v) ≡ v ∷ drop (i + 1 + entryWords) l = rw (← next) (drop-set l to v g) in
     let room : at ≤ length (take i l) = rw (length-take-le i l (omega arith)) h in
-    let more : drop at (take (i + 1) l) ≡ drop at (take i l) ++ (v ∷ []) = rw (add-one, take-suc l i 0 (omega arith)) (drop-append-le at (take i l) (v ∷ []) room) in
+    let more : drop at (take (i + 1) l) ≡ drop at (take i l) ++ (v ∷ []) =
+    rw (add-one, take-suc l i 0 (omega arith)) (drop-append-le at (take i l) (v ∷ []) room) in
     simp (front, mid, back, more, append-assoc)
 
 pub opened-end : (at : ℕ) (l : List ℕ) → opened at at l ≡ l
 unfolding opened
 opened-end at l = rw slice-empty (take-append-drop (at + entryWords) l)
 
-pub closed-turn : (i used : ℕ) (l : List ℕ) → i + entryWords < used → used ≤ length l → closed (i + 1) used (set l i (getD l (i + entryWords) 0)) ≡ closed i used l
+pub closed-turn : (i used : ℕ) (l : List ℕ) → i + entryWords < used → used ≤ length l
+    → closed (i + 1) used (set l i (getD l (i + entryWords) 0)) ≡ closed i used l
 unfolding closed
 closed-turn i used l h g =
     let v : ℕ = getD l (i + entryWords) 0 in
@@ -49,7 +51,8 @@ closed-turn i used l h g =
     rw (take-set-lt used l i v (omega arith)) (drop-set-lt (i + 1 + entryWords) (take used l) i v (omega arith)) in
     let back : drop used (set l i v) ≡ drop used l = drop-set-lt used l i v (omega arith) in
     let next : suc (i + entryWords) ≡ i + 1 + entryWords = omega arith in
-    let less : drop (i + entryWords) (take used l) ≡ v ∷ drop (i + 1 + entryWords) (take used l) = rw (← next) (slice-cons (i + entryWords) used l 0 h g) in
+    let less : drop (i + entryWords) (take used l) ≡ v ∷ drop (i + 1 + entryWords) (take used l) =
+    rw (← next) (slice-cons (i + entryWords) used l 0 h g) in
     simp (front, mid, back, less, append-assoc)
 
 -- at the end the last entry's words are cleared, as a part that is lent
@@ -74,7 +77,8 @@ opened-seam p m g q at used first last size =
     let seam : l ≡ (p ++ m) ++ (g ++ q) = sym (append-assoc p m (g ++ q)) in
     let seam₂ : l ≡ (p ++ m ++ g) ++ q = seam ∙ sym (append-assoc (p ++ m) g q) in
     let front : take (at + entryWords) l ≡ p ++ take entryWords (m ++ (g ++ q)) = rw (← first) (take-append-add p (m ++ (g ++ q)) entryWords) in
-    let mid : drop at (take used l) ≡ m = ap (λ (x : List ℕ). drop at (take used x)) seam ∙ ap (drop at) (take-at (p ++ m) (g ++ q) used pm) ∙ drop-at p m at first in
+    let mid : drop at (take used l) ≡ m =
+    ap (λ (x : List ℕ). drop at (take used x)) seam ∙ ap (drop at) (take-at (p ++ m) (g ++ q) used pm) ∙ drop-at p m at first in
     let back : drop (used + entryWords) l ≡ q = ap (drop (used + entryWords)) seam₂ ∙ drop-at (p ++ m ++ g) q (used + entryWords) pmg in
     rw (front, mid, back) (append-assoc p (take entryWords (m ++ (g ++ q))) (m ++ q))
 
@@ -88,7 +92,8 @@ closed-seam p g m q at used first size last =
     let seam : l ≡ (p ++ g ++ m) ++ q = sym (append-assoc p g (m ++ q)) ∙ sym (append-assoc (p ++ g) m q) in
     let front : take at l ≡ p = take-at p (g ++ (m ++ q)) at first in
     let mid : drop (at + entryWords) (take used l) ≡ m =
-    ap (λ (x : List ℕ). drop (at + entryWords) (take used x)) seam ∙ ap (drop (at + entryWords)) (take-at (p ++ g ++ m) q used all) ∙ drop-at (p ++ g) m (at + entryWords) pg in
+    ap (λ (x : List ℕ). drop (at + entryWords) (take used x)) seam ∙ ap (drop (at + entryWords)) (take-at (p ++ g ++ m) q used all)
+    ∙ drop-at (p ++ g) m (at + entryWords) pg in
     let back : drop used l ≡ q = ap (drop used) seam ∙ drop-at (p ++ g ++ m) q used all in
     rw (front, mid, back)
 
@@ -104,17 +109,20 @@ words-inserted j t ts g z h size =
     let m = words (drop j ts) in
     let first = front-words j ts h in
     let whole : words ts ++ (g ++ z) ≡ p ++ (m ++ (g ++ z)) =
-    ap (λ (x : List Trip). words x ++ (g ++ z)) (sym (take-append-drop j ts)) ∙ ap (λ (x : List ℕ). x ++ (g ++ z)) (words-append (take j ts) (drop j ts)) ∙ append-assoc p m (g ++ z) in
+    ap (λ (x : List Trip). words x ++ (g ++ z)) (sym (take-append-drop j ts))
+    ∙ ap (λ (x : List ℕ). x ++ (g ++ z)) (words-append (take j ts) (drop j ts)) ∙ append-assoc p m (g ++ z) in
     let split : length ts ≡ j + (length ts - j) = omega arith in
     let last : entryWords * j + length m ≡ entryWords * length ts =
     ap (λ (n : ℕ). entryWords * j + n) (words-length (drop j ts) ∙ ap (λ (n : ℕ). entryWords * n) (length-drop j ts))
     ∙ sym (words-add j (length ts - j)) ∙ ap (λ (n : ℕ). entryWords * n) (sym split) in
     let long : entryWords ≤ length (m ++ (g ++ z)) = rw (length-append, length-append) (omega arith) in
     let hole = length-take-le entryWords (m ++ (g ++ z)) long in
+    let with-trip : words (inserted j t ts) ≡ p ++ (tripWords t ++ m) =
+    words-append (take j ts) (t ∷ drop j ts) ∙ ap (λ (x : List ℕ). p ++ x) (words-cons t (drop j ts)) in
     ap (λ (x : List ℕ). put j t (opened (entryWords * j) (entryWords * length ts) x)) whole
     ∙ ap (put j t) (opened-seam p m g z (entryWords * j) (entryWords * length ts) first last size)
     ∙ put-seam p (take entryWords (m ++ (g ++ z))) (m ++ z) j t first hole
-    ∙ sym (ap (λ (x : List ℕ). x ++ z) (words-append (take j ts) (t ∷ drop j ts) ∙ ap (λ (x : List ℕ). p ++ x) (words-cons t (drop j ts))) ∙ simp append-assoc)
+    ∙ sym (ap (λ (x : List ℕ). x ++ z) with-trip ∙ simp append-assoc)
 
 pub words-removed : (j : ℕ) (ts : List Trip) (z : List ℕ) → j < length ts
     → closed (entryWords * j) (entryWords * length ts) (words ts ++ z) ≡ words (removed j ts) ++ (replicate entryWords 0 ++ z)
@@ -125,11 +133,14 @@ words-removed j ts z h =
     let first = front-words j ts (omega arith) in
     let whole : words ts ++ z ≡ p ++ (tripWords t ++ (m ++ z)) =
     ap (λ (x : List Trip). words x ++ z) (split-at ts j noTrip h)
-    ∙ ap (λ (x : List ℕ). x ++ z) (words-append (take j ts) (t ∷ drop (suc j) ts) ∙ ap (λ (x : List ℕ). p ++ x) (words-cons t (drop (suc j) ts))) ∙ simp append-assoc in
+    ∙ ap (λ (x : List ℕ). x ++ z) (words-append (take j ts) (t ∷ drop (suc j) ts) ∙ ap (λ (x : List ℕ). p ++ x) (words-cons t (drop (suc j) ts)))
+    ∙ simp append-assoc in
     let split : length ts ≡ suc j + (length ts - suc j) = omega arith in
-    let rest : length m ≡ entryWords * (length ts - suc j) = words-length (drop (suc j) ts) ∙ ap (λ (n : ℕ). entryWords * n) (length-drop (suc j) ts) in
+    let rest : length m ≡ entryWords * (length ts - suc j) =
+    words-length (drop (suc j) ts) ∙ ap (λ (n : ℕ). entryWords * n) (length-drop (suc j) ts) in
     let last : entryWords * j + entryWords + length m ≡ entryWords * length ts =
     omega (arith, rest, times-one-more j, words-add (suc j) (length ts - suc j), ap (λ (n : ℕ). entryWords * n) split) in
     ap (closed (entryWords * j) (entryWords * length ts)) whole
     ∙ closed-seam p (tripWords t) m z (entryWords * j) (entryWords * length ts) first (tripWords-length t) last
-    ∙ sym (ap (λ (x : List ℕ). x ++ (replicate entryWords 0 ++ z)) (words-append (take j ts) (drop (suc j) ts)) ∙ append-assoc p m (replicate entryWords 0 ++ z))
+    ∙ sym (append-assoc p m (replicate entryWords 0 ++ z))
+    ∙ ap (λ (x : List ℕ). x ++ (replicate entryWords 0 ++ z)) (sym (words-append (take j ts) (drop (suc j) ts)))

@@ -3,20 +3,19 @@
 use mathlib.Core.Path.{_≡_, refl, sym, ap, ap₂, _∙_}
 use mathlib.Core.Logic.{_≢_}
 use mathlib.Core.List.{List, [], _∷_, _++_, append-nil}
-use Prim.Native.Nat.{ℕ, zero, suc, _+_, _-_, _*_, _≤_, _<_}
+use Prim.Native.Nat.{ℕ, zero, suc, _+_, _-_, _*_, _<_}
 use native.Mathlib.Nat.{zero-add, add-zero}
 use native.Mathlib.Numerals.{add-one}
 use native.Mathlib.Omega.{arith}
 use lib.ListN.{length, getD, set, replicate, length-append, length-replicate}
 use Rattle.lists.specs.Lists.{joined, upTo, padded}
-use Rattle.lists.proofs.Upto.{length-upTo, getD-upTo}
+use Rattle.lists.proofs.Upto.{getD-upTo}
 use Rattle.lists.proofs.Replaced.{upTo-set}
 use Rattle.ruler.specs.Ruler.{Scale}
 use Rattle.trip.specs.declared.Trip.{Trip}
 use Rattle.layout.specs.declared.Half.{Half}
 use Rattle.layout.specs.Words.{words, partitions, halfLength, slot, entriesBefore, entries, directoryHalf}
 use Rattle.layout.specs.Words as laid
-use Rattle.layout.proofs.Rows.{words-length}
 use Rattle.store.specs.Slots.{flat, startsFrom, Holds}
 use Rattle.store.proofs.Parts.{flat-append}
 
@@ -27,7 +26,8 @@ unfolding joined upTo
 flat-upTo f zero = refl
 flat-upTo f (suc n) = flat-append (upTo f n) (f n ∷ []) ∙ ap₂ _++_ (flat-upTo f n) (append-nil (f n))
 
-starts-more : (n : ℕ) (ls : List (List Trip)) (x : List Trip) → startsFrom n (ls ++ (x ∷ [])) ≡ startsFrom n ls ++ ((n + length (flat ls) + length x) ∷ [])
+starts-more : (n : ℕ) (ls : List (List Trip)) (x : List Trip)
+    → startsFrom n (ls ++ (x ∷ [])) ≡ startsFrom n ls ++ ((n + length (flat ls) + length x) ∷ [])
 starts-more n [] x = rw add-zero
 starts-more n (l ∷ ls) x =
     let e : n + length l + length (flat ls) + length x ≡ n + length (l ++ flat ls) + length x = rw length-append (omega arith) in
@@ -60,12 +60,14 @@ module _ (s : Scale) (h : Half) (ts : List Trip) where
   flat-laid = flat-upTo (slot s h ts) (2 * partitions (s .m))
 
   -- words that hold the slots of a table are its layout
-  pub holds-laid : (dir arena : List ℕ) → Holds dir arena (tableSlots s h ts) → (dir ≡ directoryHalf s h ts) × (arena ≡ laid.arena s h ts (length arena))
+  pub holds-laid : (dir arena : List ℕ) → Holds dir arena (tableSlots s h ts)
+      → (dir ≡ directoryHalf s h ts) × (arena ≡ laid.arena s h ts (length arena))
   unfolding laid.arena padded
   holds-laid dir arena w =
       let l = words (entries s h ts) in
       let e : arena ≡ l ++ replicate (w .free) 0 = w .entries ∙ ap (λ (x : List Trip). words x ++ replicate (w .free) 0) flat-laid in
-      let size : length arena ≡ length l + w .free = ap length e ∙ length-append l (replicate (w .free) 0) ∙ ap (λ (k : ℕ). length l + k) (length-replicate (w .free) 0) in
+      let size : length arena ≡ length l + w .free =
+      ap length e ∙ length-append l (replicate (w .free) 0) ∙ ap (λ (k : ℕ). length l + k) (length-replicate (w .free) 0) in
       let left : w .free ≡ length arena - length l = omega arith in
       (w .counts ∙ starts-laid, e ∙ ap (λ (k : ℕ). l ++ replicate k 0) left)
 

@@ -3,16 +3,15 @@
 use mathlib.Core.Path.{_≡_, refl, sym, ap, ap₂, _∙_}
 use mathlib.Core.List.{List, [], _∷_, _++_, append-assoc, append-nil}
 use Prim.Native.Nat.{ℕ, zero, suc, _+_, _-_, _*_, _%_, _≤_, _<_}
-use native.Mathlib.Nat.{le-of-suc-le-suc, not-suc-le-zero}
 use native.Mathlib.Omega.{arith}
 use lib.ListN.{length, getD, set, take, drop, replicate, length-append, take-append-drop}
-use lib.Seq.{take-at, drop-at, take-add, drop-drop, drop-cons, set-split, split-at}
+use lib.Seq.{take-at, drop-at, take-add, drop-drop, drop-cons, set-split}
 use borrow.Rule.Slice.PartMut.{midOf, putMid}
 use Rattle.trip.specs.declared.Trip.{Trip}
 use Rattle.layout.specs.Words.{entryWords, words, rows}
-use Rattle.layout.proofs.Rows.{words-add, words-le, words-append, words-length, whole-rest, rows-words, words-rows}
+use Rattle.layout.proofs.Rows.{words-add, words-append, words-length, whole-rest, rows-words, words-rows}
 use Rattle.store.specs.Slots.{flat, startsFrom, Holds}
-use Rattle.store.proofs.Slots.{ahead, ahead-flat, holds-start}
+use Rattle.store.proofs.Slots.{ahead-flat, holds-start}
 
 pub flat-append : (ls ks : List (List Trip)) → flat (ls ++ ks) ≡ flat ls ++ flat ks
 flat-append [] ks = refl
@@ -35,8 +34,10 @@ module _ (dir arena : List ℕ) (ls : List (List Trip)) (j k : ℕ) (h : Holds d
   three : ls ≡ take j ls ++ (between j k ls ++ drop k ls)
   three =
       let e : j + (k - j) ≡ k = omega arith in
-      sym (take-append-drop j ls)
-      ∙ ap (λ (x : List (List Trip)). take j ls ++ x) (sym (take-append-drop (k - j) (drop j ls)) ∙ ap (λ (x : List (List Trip)). between j k ls ++ x) (drop-drop (k - j) j ls ∙ ap (λ (n : ℕ). drop n ls) e))
+      let after : drop (k - j) (drop j ls) ≡ drop k ls = drop-drop (k - j) j ls ∙ ap (λ (n : ℕ). drop n ls) e in
+      let from : drop j ls ≡ between j k ls ++ drop k ls =
+      sym (take-append-drop (k - j) (drop j ls)) ∙ ap (λ (x : List (List Trip)). between j k ls ++ x) after in
+      sym (take-append-drop j ls) ∙ ap (λ (x : List (List Trip)). take j ls ++ x) from
 
   stretch-whole : arena ≡ first ++ (words (flat (between j k ls)) ++ rest)
   unfolding first rest
@@ -44,8 +45,11 @@ module _ (dir arena : List ℕ) (ls : List (List Trip)) (j k : ℕ) (h : Holds d
       let a = flat (take j ls) in
       let b = flat (between j k ls) in
       let c = flat (drop k ls) in
-      let all : flat ls ≡ a ++ (b ++ c) = ap flat three ∙ flat-append (take j ls) _ ∙ ap (λ (x : List Trip). a ++ x) (flat-append (between j k ls) (drop k ls)) in
-      h .entries ∙ ap (λ (x : List ℕ). x ++ replicate (h .free) 0) (ap words all ∙ words-append a (b ++ c) ∙ ap (λ (x : List ℕ). words a ++ x) (words-append b c))
+      let all : flat ls ≡ a ++ (b ++ c) =
+      ap flat three ∙ flat-append (take j ls) _ ∙ ap (λ (x : List Trip). a ++ x) (flat-append (between j k ls) (drop k ls)) in
+      let in-words : words (flat ls) ≡ words a ++ (words b ++ words c) =
+      ap words all ∙ words-append a (b ++ c) ∙ ap (λ (x : List ℕ). words a ++ x) (words-append b c) in
+      h .entries ∙ ap (λ (x : List ℕ). x ++ replicate (h .free) 0) in-words
       ∙ simp append-assoc
 
   -- the two words of the directory
@@ -70,7 +74,8 @@ module _ (dir arena : List ℕ) (ls : List (List Trip)) (j k : ℕ) (h : Holds d
   middle-length = omega (arith, long)
 
   -- the part is one of the arena
-  pub stretch-in : (getD dir j 0 ≤ getD dir k 0) × (entryWords * getD dir j 0 ≤ entryWords * getD dir k 0) × (entryWords * getD dir k 0 ≤ length arena)
+  pub stretch-in : (getD dir j 0 ≤ getD dir k 0) × (entryWords * getD dir j 0 ≤ entryWords * getD dir k 0)
+      × (entryWords * getD dir k 0 ≤ length arena)
   stretch-in =
       let size : length arena ≡ length first + (length (words (flat (between j k ls))) + length rest) =
       ap length stretch-whole ∙ length-append first _ ∙ ap (λ (n : ℕ). length first + n) (length-append (words (flat (between j k ls))) rest) in
@@ -88,14 +93,16 @@ module _ (dir arena : List ℕ) (ls : List (List Trip)) (j k : ℕ) (h : Holds d
   stretch-rows = ap rows stretch-words ∙ rows-words (flat (between j k ls))
 
   -- the arena with other words in the part's place
-  stretch-put : (part : List ℕ) → putMid (entryWords * getD dir j 0) (entryWords * getD dir k 0 - entryWords * getD dir j 0) arena part ≡ first ++ (part ++ rest)
+  stretch-put : (part : List ℕ)
+      → putMid (entryWords * getD dir j 0) (entryWords * getD dir k 0 - entryWords * getD dir j 0) arena part ≡ first ++ (part ++ rest)
   stretch-put part =
       let a = entryWords * getD dir j 0 in
       let n = entryWords * getD dir k 0 - a in
       let m = words (flat (between j k ls)) in
       let front : take a arena ≡ first = ap (take a) stretch-whole ∙ take-at first (m ++ rest) a first-length in
       let back : drop n (drop a arena) ≡ rest =
-      ap (λ (x : List ℕ). drop n (drop a x)) stretch-whole ∙ ap (drop n) (drop-at first (m ++ rest) a first-length) ∙ drop-at m rest n middle-length in
+      ap (λ (x : List ℕ). drop n (drop a x)) stretch-whole ∙ ap (drop n) (drop-at first (m ++ rest) a first-length)
+      ∙ drop-at m rest n middle-length in
       ap₂ (λ (x y : List ℕ). x ++ (part ++ y)) front back
 
 -- ---- one slot
@@ -111,7 +118,8 @@ starts-same n zero (l ∷ ls) x e = ap (λ (i : ℕ). n ∷ startsFrom (n + i) l
 starts-same n (suc k) (l ∷ ls) x e = ap (λ (r : List ℕ). n ∷ r) (starts-same (n + length l) k ls x e)
 
 module _ (dir arena : List ℕ) (ls : List (List Trip)) (k : ℕ) (h : Holds dir arena ls) (inside : k < length ls) where
-  pub slot-in : (getD dir k 0 ≤ getD dir (k + 1) 0) × (entryWords * getD dir k 0 ≤ entryWords * getD dir (k + 1) 0) × (entryWords * getD dir (k + 1) 0 ≤ length arena)
+  pub slot-in : (getD dir k 0 ≤ getD dir (k + 1) 0) × (entryWords * getD dir k 0 ≤ entryWords * getD dir (k + 1) 0)
+      × (entryWords * getD dir (k + 1) 0 ≤ length arena)
   slot-in = stretch-in dir arena ls k (k + 1) h (omega arith) (omega arith)
 
   -- `&arena[ENTRY_WORDS * dir[k] .. ENTRY_WORDS * dir[k + 1]]`
@@ -136,9 +144,11 @@ module _ (dir arena : List ℕ) (ls : List (List Trip)) (k : ℕ) (h : Holds dir
       let z : List ℕ = replicate (h .free) 0 in
       let all : flat (set ls k x) ≡ a ++ (x ++ c) =
       ap flat (set-split ls k x inside ∙ ap (λ (m : ℕ). take k ls ++ (x ∷ drop m ls)) e) ∙ flat-append (take k ls) (x ∷ drop (k + 1) ls) in
+      let in-words : words (flat (set ls k x)) ≡ words a ++ (words x ++ words c) =
+      ap words all ∙ words-append a (x ++ c) ∙ ap (λ (y : List ℕ). words a ++ y) (words-append x c) in
       record {
         counts = h .counts ∙ sym (starts-same 0 k ls x same);
         free = h .free;
         entries = stretch-put dir arena ls k (k + 1) h (omega arith) (omega arith) part ∙ ap (λ (y : List ℕ). words a ++ (y ++ (words c ++ z))) w
-            ∙ sym (ap (λ (y : List ℕ). y ++ z) (ap words all ∙ words-append a (x ++ c) ∙ ap (λ (y : List ℕ). words a ++ y) (words-append x c)) ∙ simp append-assoc);
+            ∙ sym (ap (λ (y : List ℕ). y ++ z) in-words ∙ simp append-assoc);
       }

@@ -1,11 +1,11 @@
 -- Slots in words: what the code reads of a half, and what an entry more or less does to it.
 use mathlib.Core.Path.{_≡_, refl, sym, ap, ap₂, _∙_}
-use mathlib.Core.List.{List, [], _∷_, _++_, append-assoc}
-use Prim.Native.Nat.{ℕ, zero, suc, _+_, _-_, _*_, _/_, _≤_, _<_}
+use mathlib.Core.List.{List, [], _∷_, _++_}
+use Prim.Native.Nat.{ℕ, zero, suc, _+_, _-_, _*_, _≤_, _<_}
 use native.Mathlib.Nat.{le-of-suc-le-suc, not-suc-le-zero, add-assoc, add-zero, zero-add, suc-add}
 use native.Mathlib.Numerals.{add-one}
 use native.Mathlib.Omega.{arith}
-use lib.ListN.{length, getD, set, take, drop, replicate, length-append, length-replicate, replicate-append-replicate}
+use lib.ListN.{length, getD, set, take, replicate, length-append, length-replicate, replicate-append-replicate}
 use Rattle.trip.specs.declared.Trip.{Trip}
 use Rattle.layout.specs.Words.{entryWords, words}
 use Rattle.layout.proofs.Rows.{words-length}
@@ -128,7 +128,8 @@ removed-right j (x ∷ l) r = rw suc-add (ap (λ (s : List Trip). x ∷ s) (remo
 
 -- ---- all entries
 
-flat-inserted : (s p : ℕ) (t : Trip) (ls : List (List Trip)) → s < length ls → p ≤ length (getD ls s []) → flat (insertedIn s p t ls) ≡ inserted (ahead s ls + p) t (flat ls)
+flat-inserted : (s p : ℕ) (t : Trip) (ls : List (List Trip)) → s < length ls → p ≤ length (getD ls s [])
+    → flat (insertedIn s p t ls) ≡ inserted (ahead s ls + p) t (flat ls)
 flat-inserted s p t [] h k = absurd (not-suc-le-zero h)
 flat-inserted zero p t (l ∷ ls) h k = rw zero-add (inserted-left p t l (flat ls) k)
 flat-inserted (suc s) p t (l ∷ ls) h k =
@@ -179,17 +180,19 @@ pub room-inserted : (dir arena : List ℕ) (ls : List (List Trip)) (slot pos at 
     → Holds (from (slot + 1) ups dir) (put at t (opened (entryWords * at) (entryWords * used) arena)) (insertedIn slot pos t ls)
 room-inserted dir arena ls slot pos at used t r a u =
     let h = r .holds in
+    let l = getD ls slot [] in
     let free : ℕ = h .free - entryWords in
     let some : h .free ≡ entryWords + free = omega (arith, holds-room h, r .room) in
     let zeros : replicate {A = ℕ} (h .free) 0 ≡ replicate entryWords 0 ++ replicate free 0 =
     ap (λ (k : ℕ). replicate k 0) some ∙ sym (replicate-append-replicate entryWords free 0) in
-    let whole : arena ≡ words (flat ls) ++ (replicate entryWords 0 ++ replicate free 0) = h .entries ∙ ap (λ (z : List ℕ). words (flat ls) ++ z) zeros in
+    let whole : arena ≡ words (flat ls) ++ (replicate entryWords 0 ++ replicate free 0) =
+    h .entries ∙ ap (λ (z : List ℕ). words (flat ls) ++ z) zeros in
     let at-is : at ≡ ahead slot ls + pos = a ∙ ap (λ (k : ℕ). k + pos) (holds-start h slot (omega (arith, r .slot-in))) in
     let used-is : used ≡ length (flat ls) = u ∙ holds-total h in
     let inside : ahead slot ls + pos ≤ length (flat ls) = omega (arith, ahead-slot slot ls, r .pos-in) in
     record {
       counts = ap (from (slot + 1) ups) (h .counts)
-          ∙ rw (add-one slot) (sym (starts-longer 0 slot (inserted pos t (getD ls slot [])) ls (r .slot-in) (length-inserted pos t (getD ls slot []))));
+          ∙ rw (add-one slot) (sym (starts-longer 0 slot (inserted pos t l) ls (r .slot-in) (length-inserted pos t l)));
       free = free;
       entries = rw (whole, at-is, used-is, flat-inserted slot pos t ls (r .slot-in) (r .pos-in))
           (words-inserted (ahead slot ls + pos) t (flat ls) (replicate entryWords 0) (replicate free 0) inside (length-replicate entryWords 0));
@@ -219,12 +222,13 @@ pub there-removed : (dir arena : List ℕ) (ls : List (List Trip)) (slot pos at 
     → Holds (from (slot + 1) downs dir) (closed (entryWords * at) (entryWords * used) arena) (removedIn slot pos ls)
 there-removed dir arena ls slot pos at used r a u =
     let h = r .holds in
+    let l = getD ls slot [] in
     let at-is : at ≡ ahead slot ls + pos = a ∙ ap (λ (k : ℕ). k + pos) (holds-start h slot (omega (arith, r .slot-in))) in
     let used-is : used ≡ length (flat ls) = u ∙ holds-total h in
     let inside : ahead slot ls + pos < length (flat ls) = omega (arith, ahead-slot slot ls, r .pos-in) in
     record {
       counts = ap (from (slot + 1) downs) (h .counts)
-          ∙ rw (add-one slot) (sym (starts-shorter 0 slot (removed pos (getD ls slot [])) ls (r .slot-in) (length-removed pos (getD ls slot []) (r .pos-in))));
+          ∙ rw (add-one slot) (sym (starts-shorter 0 slot (removed pos l) ls (r .slot-in) (length-removed pos l (r .pos-in))));
       free = entryWords + h .free;
       entries = rw (h .entries, at-is, used-is, flat-removed slot pos ls (r .pos-in), ← replicate-append-replicate {A = ℕ} entryWords (h .free) 0)
           (words-removed (ahead slot ls + pos) (flat ls) (replicate (h .free) 0) inside);

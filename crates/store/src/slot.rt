@@ -13,11 +13,12 @@ pub fn insert(dir: &mut [u32], arena: &mut [u32], slot: usize, pos: usize, t: Tr
     ensures { λ _. ⌜ ((ls : List (List Trip)) → Room (now (dir .entry)) (now (arena .entry)) ls slot pos → Holds (now (dir .exit)) (now (arena .exit)) (insertedIn slot pos t ls)) ⌝ }
 {
     let last = dir.len() - 1;
+    let next = slot + 1;
     let used = dir[last] as usize;
     let at = dir[slot] as usize + pos;
     gap::open_gap(arena, used, at);
     entry::put_trip(arena, at, t);
-    directory::one_more_from(dir, slot + 1);
+    directory::one_more_from(dir, next);
 }
 
 // Takes the entry at a place of a slot out.
@@ -26,8 +27,9 @@ pub fn remove(dir: &mut [u32], arena: &mut [u32], slot: usize, pos: usize)
     ensures { λ _. ⌜ ((ls : List (List Trip)) → There (now (dir .entry)) (now (arena .entry)) ls slot pos → Holds (now (dir .exit)) (now (arena .exit)) (removedIn slot pos ls)) ⌝ }
 {
     let last = dir.len() - 1;
+    let next = slot + 1;
     let used = dir[last] as usize;
-    let at = dir[slot] as usize + pos;
-    gap::close_gap(arena, used, at);
-    directory::one_less_from(dir, slot + 1);
+    let gone = dir[slot] as usize + pos;
+    gap::close_gap(arena, used, gone);
+    directory::one_less_from(dir, next);
 }

@@ -1,18 +1,19 @@
 -- The loop's invariant: closing what is left closes the whole gap; then the last entry's words are cleared, as a part.
 use mathlib.Core.Path.{_≡_, refl, _∙_}
-use Prim.Native.Nat.{ℕ, _+_, _-_, _*_, _≤_}
+use Prim.Native.Nat.{_+_, _-_, _*_, _≤_}
 use lib.ListN.{length, length-set}
 use borrow.Rule.Slice.PartMut.{same-len-mid}
 use Rattle.layout.specs.Words.{entryWords}
 use Rattle.store.specs.Passes.{closed}
 use Rattle.store.proofs.Gaps.{closed-turn, closed-end}
 use native.Mathlib.Omega.{arith}
-use borrow.Author.Needs.{needs}
 use Rattle.store.proofs.gap.close_gap.Statement.{statement}
 use Rattle.store.proofs.gap.close_gap.Tie as tie
 
 abbrev Inv-loop : tie.InvT-loop
-Inv-loop arena₀ used at end i₀ arena i = (entryWords * at ≤ i) × (i + entryWords ≤ entryWords * used) × (length arena ≡ length arena₀) × (closed i (entryWords * used) arena ≡ closed (entryWords * at) (entryWords * used) arena₀)
+Inv-loop arena₀ used at end i₀ arena i =
+    (entryWords * at ≤ i) × (i + entryWords ≤ entryWords * used) × (length arena ≡ length arena₀)
+    × (closed i (entryWords * used) arena ≡ closed (entryWords * at) (entryWords * used) arena₀)
 
 abbrev μ-loop : tie.MeasureT-loop
 μ-loop arena₀ used at end i₀ arena i = entryWords * used - i
@@ -104,7 +105,8 @@ unfolding entryWords
 returns c =
     let at = c .before .before .before .before .before .loop in
     let used = entryWords * c .before .before .before .before .before .before .before .args .used in
-    closed-end (at .i) used (at .arena) (c .before .before .clear .last .0) (omega arith) (omega arith) (c .before .before .clear .ensures) ∙ at .inv .3
+    closed-end (at .i) used (at .arena) (c .before .before .clear .last .0) (omega arith) (omega arith) (c .before .before .clear .ensures)
+    ∙ at .inv .3
 
 pub close-gap-spec : {M : Type 1} → statement M
 close-gap-spec =

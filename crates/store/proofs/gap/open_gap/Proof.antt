@@ -6,12 +6,12 @@ use Rattle.layout.specs.Words.{entryWords}
 use Rattle.store.specs.Passes.{opened}
 use Rattle.store.proofs.Gaps.{opened-turn, opened-end}
 use native.Mathlib.Omega.{arith}
-use borrow.Author.Needs.{needs}
 use Rattle.store.proofs.gap.open_gap.Statement.{statement}
 use Rattle.store.proofs.gap.open_gap.Tie as tie
 
 abbrev Inv-loop : tie.InvT-loop
-Inv-loop arena₀ used at first i₀ arena i = (first ≤ i) × (i ≤ entryWords * used) × (length arena ≡ length arena₀) × (opened first i arena ≡ opened first (entryWords * used) arena₀)
+Inv-loop arena₀ used at first i₀ arena i =
+    (first ≤ i) × (i ≤ entryWords * used) × (length arena ≡ length arena₀) × (opened first i arena ≡ opened first (entryWords * used) arena₀)
 
 abbrev μ-loop : tie.MeasureT-loop
 μ-loop arena₀ used at first i₀ arena i = i

@@ -48,9 +48,10 @@ loop-again : tie.Need-loop-again Inv-loop μ-loop
 unfolding entryWords
 loop-again c =
     let start = c .before .before .before .before .before .before in
+    let read = c .before .before in
     let at = c .before .before .before .before .loop in (
       search-up (start .args .part .now) (start .args .d) (start .args .t) (start .pre) (at .low) (at .high) (at .low + (at .high - at .low) / 2)
-          (c .before .before .trip-at .result) (at .inv .0) (omega arith) (omega arith) (c .before .before .trip-at .ensures) (sym (c .before .precedes .ensures) ∙ c .if1 .taken),
+          (read .trip-at .result) (at .inv .0) (omega arith) (omega arith) (read .trip-at .ensures) (sym (c .before .precedes .ensures) ∙ c .if1 .taken),
       omega arith,
     )
 
@@ -62,9 +63,10 @@ loop-again-2 : tie.Need-loop-again-2 Inv-loop μ-loop
 unfolding entryWords
 loop-again-2 c =
     let start = c .before .before .before .before .before .before in
+    let read = c .before .before in
     let at = c .before .before .before .before .loop in (
       search-down (start .args .part .now) (start .args .d) (start .args .t) (start .pre) (at .low) (at .high) (at .low + (at .high - at .low) / 2)
-          (c .before .before .trip-at .result) (at .inv .0) (omega arith) (omega arith) (c .before .before .trip-at .ensures) (sym (c .before .precedes .ensures) ∙ c .if1 .left),
+          (read .trip-at .result) (at .inv .0) (omega arith) (omega arith) (read .trip-at .ensures) (sym (c .before .precedes .ensures) ∙ c .if1 .left),
       omega arith,
     )
 

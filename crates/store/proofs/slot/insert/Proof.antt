@@ -15,6 +15,10 @@ sub-last : tie.Need-sub-last
 unfolding entryWords
 sub-last c = omega (arith, in-words (c .before .before))
 
+add-next : tie.Need-add-next
+unfolding entryWords
+add-next c = omega (arith, in-words (c .before .before))
+
 mul-used : tie.Need-mul-used
 mul-used c = search needs
 
@@ -48,14 +52,12 @@ open-gap-requires c κs = omega (arith, in-words (c .before .before .before .bef
 
 put-trip-requires : tie.Need-put-trip-requires
 unfolding entryWords
-put-trip-requires c κs = omega (arith, in-words (c .before .before .before .before .before .before .before .before .before), c .before .before .before .open-gap .kept .0)
-
-add-one-more-from : tie.Need-add-one-more-from
-unfolding entryWords
-add-one-more-from c = omega (arith, in-words (c .before .before .before .before .before .before .before .before .before .before .before .before .before))
+put-trip-requires c κs =
+    omega (arith, in-words (c .before .before .before .before .before .before .before .before .before), c .before .before .before .open-gap .kept .0)
 
 one-more-from-requires : tie.Need-one-more-from-requires
-one-more-from-requires c κs = λ k h. in-words (c .before .before .before .before .before .before .before .before .before .before .before .before .before) .few k
+one-more-from-requires c κs =
+    λ k h. in-words (c .before .before .before .before .before .before .before .before .before .before .before .before .before) .few k
 
 same-length : tie.Need-same-length
 same-length c = search needs
@@ -66,7 +68,9 @@ same-length-2 c = search needs
 returns : tie.Need-returns
 returns c = λ ls r.
     let a = c .before .before .before .before .before .before .before .before .before .before .before .before .before .before .before .before .args in
-    rw (c .before .before .one-more-from .ensures, c .before .before .before .before .before .before .put-trip .ensures, c .before .before .before .before .before .before .before .before .before .before .open-gap .ensures)
+    let after-put = c .before .before .before .before .before .before in
+    let after-gap = c .before .before .before .before .before .before .before .before .before .before in
+    rw (c .before .before .one-more-from .ensures, after-put .put-trip .ensures, after-gap .open-gap .ensures)
     (room-inserted (a .dir .now) (a .arena .now) ls (a .slot) (a .pos) _ _ (a .t) r refl refl)
 
 pub insert-spec : {M : Type 1} → statement M
@@ -74,6 +78,7 @@ insert-spec =
     tie.close
     (tie.spec
     sub-last
+    add-next
     mul-used
     slice-read-used
     cast-used
@@ -83,7 +88,6 @@ insert-spec =
     add-at
     open-gap-requires
     put-trip-requires
-    add-one-more-from
     one-more-from-requires
     same-length
     same-length-2

@@ -15,6 +15,10 @@ sub-last : tie.Need-sub-last
 unfolding entryWords
 sub-last c = omega (arith, in-words (c .before .before))
 
+add-next : tie.Need-add-next
+unfolding entryWords
+add-next c = omega (arith, in-words (c .before .before))
+
 mul-used : tie.Need-mul-used
 mul-used c = search needs
 
@@ -26,29 +30,25 @@ cast-used : tie.Need-cast-used
 unfolding entryWords
 cast-used c = omega (arith, in-words (c .before .before .before))
 
-mul-at : tie.Need-mul-at
+mul-gone : tie.Need-mul-gone
 unfolding entryWords
-mul-at c = omega (arith, in-words (c .before .before .before))
+mul-gone c = omega (arith, in-words (c .before .before .before))
 
-slice-read-at : tie.Need-slice-read-at
+slice-read-gone : tie.Need-slice-read-gone
 unfolding entryWords
-slice-read-at c = omega (arith, in-words (c .before .before .before .before))
+slice-read-gone c = omega (arith, in-words (c .before .before .before .before))
 
-cast-at : tie.Need-cast-at
+cast-gone : tie.Need-cast-gone
 unfolding entryWords
-cast-at c = omega (arith, in-words (c .before .before .before .before))
+cast-gone c = omega (arith, in-words (c .before .before .before .before))
 
-add-at : tie.Need-add-at
+add-gone : tie.Need-add-gone
 unfolding entryWords
-add-at c = omega (arith, in-words (c .before .before .before .before))
+add-gone c = omega (arith, in-words (c .before .before .before .before))
 
 close-gap-requires : tie.Need-close-gap-requires
 unfolding entryWords
 close-gap-requires c κs = omega (arith, in-words (c .before .before .before .before .before))
-
-add-one-less-from : tie.Need-add-one-less-from
-unfolding entryWords
-add-one-less-from c = omega (arith, in-words (c .before .before .before .before .before .before .before .before .before))
 
 one-less-from-requires : tie.Need-one-less-from-requires
 one-less-from-requires c κs = in-words (c .before .before .before .before .before .before .before .before .before) .more
@@ -70,15 +70,15 @@ remove-spec =
     tie.close
     (tie.spec
     sub-last
+    add-next
     mul-used
     slice-read-used
     cast-used
-    mul-at
-    slice-read-at
-    cast-at
-    add-at
+    mul-gone
+    slice-read-gone
+    cast-gone
+    add-gone
     close-gap-requires
-    add-one-less-from
     one-less-from-requires
     same-length
     same-length-2
