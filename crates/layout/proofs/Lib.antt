@@ -12,3 +12,6 @@ pub mod Edits
 pub mod Reported
 pub mod Edited
 pub mod Starred
+pub mod Counted
+pub mod Checked
+pub mod Local
