@@ -15,3 +15,4 @@ pub mod Starred
 pub mod Counted
 pub mod Checked
 pub mod Local
+pub mod ByLevel
