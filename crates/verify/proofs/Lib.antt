@@ -6,3 +6,4 @@ pub mod Home
 pub mod Differing
 pub mod Halving
 pub mod Walk
+pub mod Law

@@ -116,14 +116,14 @@ module _ (m a b : ℕ) where
       let h : suc L ≤ m = w .deep in
       let t = two-pow-succ L in
       let into : (i : ℕ) → T (within m L i a b) → ((from + 1) / 2 ≤ i) × (i < to / 2) = λ i q.
-          let x : 2 * i / 2 ≡ i = omega arith in
-          let y : (2 * i + 1) / 2 ≡ i = omega arith in
-          let u = w .into (2 * i) (within-child m L (2 * i) a b h (rw x q)) in
-          let v = w .into (2 * i + 1) (within-child m L (2 * i + 1) a b h (rw y q)) in
-          (omega arith, omega arith)
+      let x : 2 * i / 2 ≡ i = omega arith in
+      let y : (2 * i + 1) / 2 ≡ i = omega arith in
+      let u = w .into (2 * i) (within-child m L (2 * i) a b h (rw x q)) in
+      let v = w .into (2 * i + 1) (within-child m L (2 * i + 1) a b h (rw y q)) in
+      (omega arith, omega arith)
       in
       let outof : (i : ℕ) → (from + 1) / 2 ≤ i → i < to / 2 → T (within m L i a b) = λ i r s.
-          halves L i h (w .outof (2 * i) (omega arith) (omega arith)) (w .outof (2 * i + 1) (omega arith) (omega arith))
+      halves L i h (w .outof (2 * i) (omega arith) (omega arith)) (w .outof (2 * i + 1) (omega arith) (omega arith))
       in
       let high : to / 2 ≤ 2 ^ L = omega (arith, w .high) in
       let above = span-count (λ i. within m L i a b) ((from + 1) / 2) (to / 2) into outof (2 ^ L) high in

@@ -54,10 +54,10 @@ pub fn counts_to(ruler: Ruler, n: usize, part: &[u32]) -> bool
     requires { ⌜ length (now part) / entryWords ≤ mostTrips ⌝ }
     ensures { λ r. ⌜ r ≡ countsTo (scale ruler) n (rows (now (part .entry))) ⌝ }
 {
-    let rows = part.len() / ENTRY_WORDS;
+    let trips = part.len() / ENTRY_WORDS;
     let mut k: usize = 0;
     let mut sum: usize = 0;
-    while k < rows {
+    while k < trips {
         let t = trip_at(part, k);
         if !fits(ruler, t) {
             return false;

@@ -1,13 +1,13 @@
 // A replica's original: the slot where it has to stand, and a search for it there.
-use crate::half::slot_words;
+use crate::half::offset;
 use crate::partition::bottom_cell;
 use crate::partition::cell_at;
 use crate::partition::fits;
 use crate::partition::lies_in;
 use layout::ENTRY_WORDS;
 use layout::Subdivision;
-use ruler::power;
 use ruler::Ruler;
+use ruler::power;
 use store::entry::precedes;
 use store::entry::trip_at;
 use trip::Trip;
@@ -18,7 +18,7 @@ ghost use lib.ListN.{length};
 ghost use Rattle.ruler.specs.Ruler.{deepest, inBounds, scale};
 ghost use Rattle.layout.specs.declared.Half.the-variants.{Originals};
 ghost use Rattle.layout.specs.declared.Subdivision.the-variants.{OIn};
-ghost use Rattle.layout.specs.Words.{rows, order, halfLength};
+ghost use Rattle.layout.specs.Words.{rows, order, halfLength, slotNumber};
 ghost use Rattle.verify.specs.Passing.{each, some, climbs};
 ghost use Rattle.verify.specs.Local.{fitsTest, halfOk, SlotIn, slotAt, slotsOk, homeLevel, home, sameTrip, isKnown};
 
@@ -38,6 +38,18 @@ fn home_level(m: u32, a: u32, b: u32) -> u32
     0
 }
 
+// The "in" or the "aft" slot of partition i of a level.
+fn slot_number(level: u32, i: u32, aft: bool) -> usize
+    requires { ⌜ (level ≤ deepest) × (i < 2 ^ level) ⌝ }
+    ensures { λ r. ⌜ r ≡ slotNumber level i aft ⌝ }
+{
+    let p = (power(level) - 1 + i) as usize;
+    if aft {
+        return 2 * p + 1;
+    }
+    2 * p
+}
+
 // The slot of the original entry.
 fn home(ruler: Ruler, t: Trip) -> usize
     requires { ⌜ inBounds (ruler .numbers) ≡ true ⌝ }
@@ -52,11 +64,8 @@ fn home(ruler: Ruler, t: Trip) -> usize
         bottom_cell(ruler, end),
     );
     let i = cell_at(ruler, level, start);
-    let p = (power(level) - 1 + i) as usize;
-    if cell_at(ruler, level, end) == i {
-        return 2 * p;
-    }
-    2 * p + 1
+    let ends = cell_at(ruler, level, end) == i;
+    slot_number(level, i, !ends)
 }
 
 // Whether two trips have the same words.
@@ -90,8 +99,19 @@ fn has_trip(part: &[u32], t: Trip) -> bool
     false
 }
 
+// Whether the trip stands in slot k, which is in the order of originals.
+fn slot_has(dir: &[u32], originals: &[u32], k: usize, t: Trip) -> bool
+    requires { ⌜ SlotIn (now dir) (now originals) k ⌝ }
+    requires { ⌜ climbs (order OIn) (slotAt (now dir) (now originals) k) ≡ true ⌝ }
+    ensures { λ r. ⌜ r ≡ some (sameTrip t) (slotAt (now (dir .entry)) (now (originals .entry)) k) ⌝ }
+{
+    let from = offset(dir, k);
+    let to = offset(dir, k + 1);
+    has_trip(&originals[from..to], t)
+}
+
 // Whether the original of a trip stands in its slot.
-fn is_known<'a>(ruler: Ruler, dir: &'a [u32], originals: &'a [u32], t: Trip) -> bool
+fn is_known(ruler: Ruler, dir: &[u32], originals: &[u32], t: Trip) -> bool
     requires { ⌜ inBounds (ruler .numbers) ≡ true ⌝ }
     requires { ⌜ length (now dir) ≡ halfLength (scale ruler .m) ⌝ }
     requires { ⌜ (halfOk (now dir) (now originals) ≡ true) × (slotsOk (scale ruler) Originals (now dir) (now originals) ≡ true) ⌝ }
@@ -100,11 +120,11 @@ fn is_known<'a>(ruler: Ruler, dir: &'a [u32], originals: &'a [u32], t: Trip) -> 
     if !fits(ruler, t) {
         return false;
     }
-    has_trip(slot_words(dir, originals, home(ruler, t)), t)
+    slot_has(dir, originals, home(ruler, t), t)
 }
 
 // Whether the original of each trip of a part stands in its slot.
-pub fn all_known<'a>(ruler: Ruler, dir: &'a [u32], originals: &'a [u32], part: &[u32]) -> bool
+pub fn all_known(ruler: Ruler, dir: &[u32], originals: &[u32], part: &[u32]) -> bool
     requires { ⌜ inBounds (ruler .numbers) ≡ true ⌝ }
     requires { ⌜ length (now dir) ≡ halfLength (scale ruler .m) ⌝ }
     requires { ⌜ (halfOk (now dir) (now originals) ≡ true) × (slotsOk (scale ruler) Originals (now dir) (now originals) ≡ true) ⌝ }

@@ -1,10 +1,9 @@
+-- The three words are compared.
+use Rattle.verify.specs.Local.{sameTrip}
 use native.Mathlib.Omega.{arith}
 use borrow.Author.Needs.{needs}
 use Rattle.verify.proofs.origin.same_trip.Statement.{statement}
 use Rattle.verify.proofs.origin.same_trip.Tie as tie
-use Rattle.verify.proofs.origin.same_trip.Reads as reads
-use Rattle.verify.proofs.origin.same_trip.Lts as lts
-use Rattle.ruler.proofs.Time.same.Reads as same-reads
 
 same-requires : tie.Need-same-requires
 same-requires c κs = search needs
@@ -13,7 +12,8 @@ same-requires-2 : tie.Need-same-requires-2
 same-requires-2 c κs = search needs
 
 returns : tie.Need-returns
-returns c = ?
+unfolding sameTrip
+returns c = rw (c .before .same .ensures, c .same2 .ensures)
 
 pub same-trip-spec : {M : Type 1} → statement M
 same-trip-spec = tie.close (tie.spec same-requires same-requires-2 returns)
