@@ -7,3 +7,4 @@ pub mod Differing
 pub mod Halving
 pub mod Walk
 pub mod Law
+pub mod Parts

@@ -15,7 +15,7 @@ use ruler::Ruler;
 use ruler::power;
 ghost use mathlib.Core.Path.{_≡_};
 ghost use mathlib.Core.Bool.{true};
-ghost use Prim.Native.Nat.{_≤_};
+ghost use Prim.Native.Nat.{_<_, _≤_};
 ghost use lib.ListN.{length};
 ghost use Rattle.ruler.specs.Ruler.{deepest, inBounds, scaleOf, scale};
 ghost use Rattle.layout.specs.Words.{halfLength, directoryLength};
@@ -29,7 +29,15 @@ mod ids;
 mod origin;
 mod partition;
 
-// The tests over the slots of both halves; o and r are the halves of the directory.
+// The tests over the words of both halves; o and r are the halves of the directory.
+fn halves_ok(o: &[u32], originals: &[u32], r: &[u32], replicas: &[u32]) -> bool
+    requires { ⌜ (0 < length (now o)) × (0 < length (now r)) ⌝ }
+    ensures { λ x. ⌜ x ≡ halvesOk (now (o .entry)) (now (originals .entry)) (now (r .entry)) (now (replicas .entry)) ⌝ }
+{
+    half_ok(o, originals) & half_ok(r, replicas)
+}
+
+// The tests over the slots of both halves.
 fn all_slots_ok(ruler: Ruler, o: &[u32], originals: &[u32], r: &[u32], replicas: &[u32]) -> bool
     requires { ⌜ inBounds (ruler .numbers) ≡ true ⌝ }
     requires { ⌜ (length (now o) ≡ halfLength (scale ruler .m)) × (length (now r) ≡ halfLength (scale ruler .m)) ⌝ }
@@ -65,7 +73,7 @@ fn locally(ruler: Ruler, o: &[u32], originals: &[u32], r: &[u32], replicas: &[u3
     requires { ⌜ (length (now o) ≡ halfLength (scale ruler .m)) × (length (now r) ≡ halfLength (scale ruler .m)) ⌝ }
     ensures { λ x. ⌜ x ≡ locally (scale ruler) (now (o .entry)) (now (originals .entry)) (now (r .entry)) (now (replicas .entry)) ⌝ }
 {
-    if !(half_ok(o, originals) & half_ok(r, replicas)) {
+    if !halves_ok(o, originals, r, replicas) {
         return false;
     }
     if !all_slots_ok(ruler, o, originals, r, replicas) {
