@@ -12,3 +12,5 @@ pub mod Alike
 pub mod Halving
 pub mod Stores
 pub mod Lent
+pub mod Sublists
+pub mod Sums
