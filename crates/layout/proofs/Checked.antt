@@ -28,15 +28,18 @@ later false why d first rest h by k e = h by k e
 accepted-not : {A : Type 0} (by : Refusal) (k : ℕ) → Accepted ≡ Refused by k → A
 accepted-not by k e = let z : _≡_ {A = ℕ} 0 1 = cc in absurd (omega arith)
 
-pub refused-for-all : (s : Scale) (x : Index) (why : Refusal) (d : ℕ) → checkOutcome s x ≡ Refused why d → (rest : Outcome) → indexTests s x rest ≡ Refused why d
+-- where the check is refused, so is every call on these words, for the same reason
+pub refused-for-all : (s : Scale) (x : Index) (why : Refusal) (d : ℕ) → checkOutcome s x ≡ Refused why d
+    → (rest : Outcome) → indexTests s x rest ≡ Refused why d
 unfolding checkOutcome indexTests
 refused-for-all s x why d e rest = later _ _ 0 _ _ (later _ _ 0 _ _ (later _ _ 0 Accepted rest (λ by k q. accepted-not by k q))) why d e
 
--- an index that passes: the facts of it, and the outcome of any call on it
+-- where it passes, the words are an index
 pub checked : (s : Scale) (x : Index) → checkOutcome s x ≡ Accepted → Indexed s x
 unfolding checkOutcome
 checked s x e = of-indexTests s x Accepted e .0
 
+-- and the rest of a call's chain decides
 pub passed : (s : Scale) (x : Index) → checkOutcome s x ≡ Accepted → (rest : Outcome) → indexTests s x rest ≡ rest
 passed s x e rest = to-indexTests s x rest (checked s x e)
 

@@ -1,9 +1,9 @@
 -- The local conditions on words, and that together they are the definition's test of an index. Each half's words hold the lists of its
 -- slots; each entry is a trip of the ruler that stands in its own slot, each slot is in strict order, no original's id stands twice, each
 -- replica is one of the originals, and the entries are as many as the partitions that hold the originals, added up. Nothing is laid out anew.
-use mathlib.Core.Path.{_≡_, refl, sym, ap, ap₂, subst, _∙_}
+use mathlib.Core.Path.{_≡_, sym, ap, ap₂, _∙_}
 use mathlib.Core.List.{List, _++_, List·Memᴰ as Mem, List·Memᴰ·not-nil as not-nil}
-use Prim.Native.Nat.{ℕ, _+_, _-_, _*_, _/_, _%_, _≤_, _<_}
+use Prim.Native.Nat.{ℕ, _+_, _-_, _*_, _%_, _≤_, _<_}
 use native.Mathlib.Omega.{arith}
 use lib.Dec.{T, eqb}
 use lib.ListN.{length, take, drop, replicate, length-append, take-append-drop}
@@ -28,7 +28,6 @@ use Rattle.layout.proofs.RowOrder.{Distinct, slot-order, distinct-apart
 use Rattle.layout.proofs.Slots.{of-slot, to-slot, slot-once}
 use Rattle.layout.proofs.Few.{never-eleven}
 use Rattle.layout.proofs.Rows.{words-length}
-use Rattle.layout.proofs.Chains.{Room}
 use Rattle.layout.proofs.Tables.{Table}
 use Rattle.layout.proofs.Indexes.{Indexed, table-again, indexed}
 use Rattle.layout.proofs.Counted.{inSlot, slots-sum}
@@ -109,7 +108,8 @@ module _ (s : Scale) (fair : Fair s) (o p : ℕ → List Trip) (w : Proper s o p
 
 -- ---- the slots of an accepted table pass
 
-module _ (s : Scale) (ts : List Trip) (few : length ts ≤ mostTrips) (fits : (t : Trip) → Mem t ts → Fits s t) (d : Distinct ts) (self : entries s Originals ts ≡ ts) where
+module _ (s : Scale) (ts : List Trip) (few : length ts ≤ mostTrips) (fits : (t : Trip) → Mem t ts → Fits s t) (d : Distinct ts)
+    (self : entries s Originals ts ≡ ts) where
   slot-standing : (h : Half) → Standing s h (slot s h ts)
   slot-standing h = record {
     fits = λ k l t m. fits t (of-slot s h ts k t m .0);

@@ -1,13 +1,13 @@
 -- A list in strict order whose members are all in another such list: it is no longer, and it is the other where it is as long.
 use mathlib.Core.Path.{_≡_, refl, sym, ap₂, subst, _∙_}
 use mathlib.Core.Bool.{Bool}
-use mathlib.Core.List.{List, [], _∷_, _++_, List·Memᴰ as Mem, List·Memᴰ·head as here, List·Memᴰ·tail as there, List·Memᴰ·not-nil as not-nil}
+use mathlib.Core.List.{List, _∷_, _++_, List·Memᴰ as Mem, List·Memᴰ·head as here, List·Memᴰ·tail as there, List·Memᴰ·not-nil as not-nil}
 use Prim.Native.Nat.{ℕ, zero, suc, _≤_, _<_}
 use native.Mathlib.Omega.{arith}
 use lib.Dec.{T}
 use lib.ListN.{length}
 use Rattle.lists.specs.Lists.{joined}
-use Rattle.lists.proofs.Members.{In, Pairs, none, more}
+use Rattle.lists.proofs.Members.{In, none, more}
 use Rattle.lists.proofs.Sorting.{Sorted, StrictOrder}
 
 module _ {A : Type 0} {lt : A → A → Bool} (o : StrictOrder lt) where

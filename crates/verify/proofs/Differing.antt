@@ -1,20 +1,19 @@
 -- No id twice: the ids of distinct trips climb in ascending order, and only these.
 use mathlib.Core.Path.{_≡_, refl, sym, ap, _∙_}
 use mathlib.Core.Bool.{Bool, true, false, cond}
-use mathlib.Core.List.{List, [], _∷_, _++_, map, List·Memᴰ as Mem, List·Memᴰ·head as here, List·Memᴰ·tail as there, List·Memᴰ·not-nil as not-nil}
-use Prim.Native.Nat.{ℕ, _-_, _/_, _≤_, _<_}
+use mathlib.Core.List.{List, [], _∷_, _++_, List·Memᴰ as Mem, List·Memᴰ·head as here, List·Memᴰ·tail as there, List·Memᴰ·not-nil as not-nil}
+use Prim.Native.Nat.{ℕ, _-_, _/_}
 use native.Mathlib.Omega.{arith}
 use lib.Dec.{T, leb, ltb, ltb→lt}
-use lib.ListN.{length, take, drop}
+use lib.ListN.{length, take}
 use lib.Seq.{take-at}
 use Rattle.lists.specs.Lists.{insert, sort, ascending}
-use Rattle.lists.proofs.Members.{Pairs, none, more, to-insert, to-sort, length-sort}
+use Rattle.lists.proofs.Members.{none, more, to-insert, to-sort, length-sort}
 use Rattle.lists.proofs.Sorting.{Sorted, Differ, below, differ-apart, ascending-below, sorted-sort}
 use Rattle.lists.proofs.Upto.{length-upTo}
 use Rattle.trip.specs.declared.Trip.{Trip}
 use Rattle.layout.specs.Answers.{over}
 use Rattle.layout.specs.Words.{entryWords, rows}
-use Rattle.layout.proofs.Rows.{length-rows}
 use Rattle.layout.proofs.RowOrder.{Distinct}
 use Rattle.store.specs.Entries.{ids}
 use Rattle.store.proofs.Entries.{ids-rows}

@@ -5,7 +5,7 @@ use mathlib.Core.List.{List, List·Memᴰ as Mem}
 use Prim.Native.Nat.{ℕ, zero, suc, _+_, _-_, _*_, _/_, _%_, _^_, _≤_, _<_}
 use native.Mathlib.Nat.{sub-self}
 use native.Mathlib.Omega.{arith}
-use lib.Dec.{T, leb, eqb, leb→le, le→leb, eqb→eq, eqb-refl}
+use lib.Dec.{T, eqb, leb→le, le→leb, eqb→eq, eqb-refl}
 use Rattle.lists.proofs.Tests.{of-and, to-and, to-T}
 use Rattle.ruler.specs.declared.Ruler.{Ruler}
 use Rattle.ruler.specs.Ruler.{Scale, inBounds, scale, noLater, sameTime, timeAt, cellUp}
@@ -14,7 +14,7 @@ use Rattle.ruler.proofs.Levels.{up-half, up-bottom, up-lt}
 use Rattle.trip.specs.declared.Trip.{Trip}
 use Rattle.layout.specs.declared.Half.the-variants.{Originals}
 use Rattle.layout.specs.Stored.{within, holds, holdsTrip, isOriginal, isIn, isOf, subdivisionOf, belongs}
-use Rattle.layout.specs.Words.{partitions, partitionNumber, levelOf, placeOf, slotNumber, slot}
+use Rattle.layout.specs.Words.{partitions, partitionNumber, slotNumber, slot}
 use Rattle.layout.proofs.Partitions.{Fits, to-within}
 use Rattle.layout.proofs.Numbers.{level-number, place-number, number-lt}
 use Rattle.layout.proofs.Slots.{to-slot}

@@ -1,11 +1,11 @@
 -- The local tests pass exactly where the definition's test of an index does.
-use mathlib.Core.Path.{_≡_, refl, sym, ap, subst, _∙_}
-use mathlib.Core.Bool.{Bool, true, false, _&&_}
+use mathlib.Core.Path.{_≡_, sym, ap, _∙_}
+use mathlib.Core.Bool.{true, _&&_}
 use mathlib.Core.List.{List, List·Memᴰ as Mem}
-use Prim.Native.Nat.{ℕ, _+_, _-_, _*_, _/_, _%_, _≤_, _<_}
+use Prim.Native.Nat.{ℕ, _+_, _-_, _*_, _/_, _≤_, _<_}
 use native.Mathlib.Omega.{arith}
 use lib.Dec.{T, leb, eqb, leb→le, le→leb, eqb→eq, eqb-refl}
-use lib.ListN.{length, getD, take, drop, length-drop}
+use lib.ListN.{length, take, drop, length-drop}
 use lib.Seq.{length-take-le, take-all}
 use Rattle.lists.specs.Lists.{joined}
 use Rattle.lists.proofs.Tests.{of-and, to-and, to-T}
@@ -18,16 +18,14 @@ use Rattle.ruler.proofs.Fair.{Fair, fair}
 use Rattle.trip.specs.declared.Trip.{Trip}
 use Rattle.layout.specs.declared.Half.{Half}
 use Rattle.layout.specs.declared.Half.the-variants.{Originals, Replicas}
-use Rattle.layout.specs.Stored.{belongs}
-use Rattle.layout.specs.Words.{order, partitions, halfLength, directoryLength, levelOf, placeOf, Index}
+use Rattle.layout.specs.Words.{order, partitions, halfLength, directoryLength, Index}
 use Rattle.layout.specs.Refusals.{partitionsHolding, isIndex}
 use Rattle.layout.specs.Calls.{index}
-use Rattle.layout.proofs.Partitions.{Fits}
 use Rattle.layout.proofs.RowOrder.{slot-order}
 use Rattle.layout.proofs.Indexes.{of-isIndex, to-isIndex}
 use Rattle.layout.proofs.Counted.{inSlot}
-use Rattle.layout.proofs.Local.{slotsOf, subdivisionAt, Standing, Proper, Laid, Local, originalsHalf, replicasHalf, all-fit, originals-are, local-index, index-local}
-use Rattle.verify.specs.Passing.{below, each, some, inRow}
+use Rattle.layout.proofs.Local.{slotsOf, subdivisionAt, Standing, Proper, Laid, originalsHalf, replicasHalf, all-fit, originals-are, local-index, index-local}
+use Rattle.verify.specs.Passing.{each, some}
 use Rattle.verify.specs.Local.{total, halfOk, slotAt, tripsOf, fitsTest, standsAt, slotOk, slotsOk, home, sameTrip, isKnown, idsDiffer, countsTo, halvesOk, allSlotsOk, tripsOk, locally}
 use Rattle.verify.proofs.Passing.{bool-ext, of-below, to-below, of-each, to-each, of-some, to-some, row-passes, row-sorted, to-row}
 use Rattle.verify.proofs.Home.{of-fits, to-fits, of-same, same-refl, home-lt, home-slot}
@@ -57,8 +55,11 @@ module _ (s : Scale) (h : Half) (dir arena : List ℕ) (f : ℕ → List Trip) (
   unfolding slotsOk slotOk standsAt
   to-slotsOk c =
       let n : length dir - 1 ≡ slotsOf s = omega (arith, laid-length dir arena f _ w) in
-      rw n (to-below (λ k. slotOk s h k (slotAt dir arena k)) (slotsOf s) (λ k l. rw (laid-at dir arena f (slotsOf s) w k l)
-      (to-row _ (order (subdivisionAt h k)) (λ u m. to-and (fitsTest s u) (inSlot s h k u) (to-fits s u (c .fits k l u m)) (c .right k l u m)) (c .sorted k l))))
+      let stands : (k : ℕ) → k < slotsOf s → (u : Trip) → Mem u (f k) → T (fitsTest s u && inSlot s h k u) = λ k l u m.
+      to-and (fitsTest s u) (inSlot s h k u) (to-fits s u (c .fits k l u m)) (c .right k l u m)
+      in
+      rw n (to-below (λ k. slotOk s h k (slotAt dir arena k)) (slotsOf s) (λ k l.
+      rw (laid-at dir arena f (slotsOf s) w k l) (to-row _ (order (subdivisionAt h k)) (stands k l) (c .sorted k l))))
 
 -- slots that pass
 of-slotsOk : (s : Scale) (h : Half) (dir arena : List ℕ) → length dir ≡ slotsOf s + 1 → T (slotsOk s h dir arena) → Standing s h (slotAt dir arena)
@@ -115,7 +116,8 @@ module _ (s : Scale) (fair : Fair s) (o orig r repl : List ℕ) where
     unfolding halvesOk
     laid-parts t =
         let w = of-and (halfOk o orig) (halfOk r repl) t in
-        (cut-laid o orig (slotsOf s) (of-half o orig (slotsOf s) o-long (w .0)) o-long, cut-laid r repl (slotsOf s) (of-half r repl (slotsOf s) r-long (w .1)) r-long)
+        let n = slotsOf s in
+        (cut-laid o orig n (of-half o orig n o-long (w .0)) o-long, cut-laid r repl n (of-half r repl n r-long (w .1)) r-long)
 
     of-locally : T (locally s o orig r repl)
         → Laid o orig (slotAt o orig) (slotsOf s) × Laid r repl (slotAt r repl) (slotsOf s) × Proper s (slotAt o orig) (slotAt r repl)
@@ -154,7 +156,8 @@ module _ (s : Scale) (fair : Fair s) (o orig r repl : List ℕ) where
 
 -- ---- the law
 
-module _ (s : Scale) (fair : Fair s) (x : Index) (good : T (s .good)) (small : s .m ≤ deepest) (long : length (x .directory) ≡ directoryLength (s .m)) where
+module _ (s : Scale) (fair : Fair s) (x : Index) (good : T (s .good)) (small : s .m ≤ deepest)
+    (long : length (x .directory) ≡ directoryLength (s .m)) where
   o-length : length (originalsHalf s (x .directory)) ≡ slotsOf s + 1
   unfolding originalsHalf halfLength directoryLength
   o-length = length-take-le (2 * partitions (s .m) + 1) (x .directory) (omega arith)
@@ -168,7 +171,9 @@ module _ (s : Scale) (fair : Fair s) (x : Index) (good : T (s .good)) (small : s
       let o = originalsHalf s (x .directory) in
       let r = replicasHalf s (x .directory) in
       bool-ext (isIndex s x) (locally s o (x .originals) r (x .replicas))
-      (λ t. let w = index-local s fair x (of-isIndex s x t) in to-locally s fair o (x .originals) r (x .replicas) _ _ (w .in-originals) (w .in-replicas) (w .proper))
+      (λ t.
+      let w = index-local s fair x (of-isIndex s x t) in
+      to-locally s fair o (x .originals) r (x .replicas) _ _ (w .in-originals) (w .in-replicas) (w .proper))
       (λ t.
       let w = of-locally s fair o (x .originals) r (x .replicas) o-length r-length t in
       to-isIndex s x (local-index s fair x _ _ good small long (record { in-originals = w .0; in-replicas = w .1; proper = w .2 })))
@@ -183,7 +188,8 @@ of-ruler r d orig repl good long =
 
 -- and of the two parts of a directory, as the code cuts it
 pub two-parts : (r : Ruler) (d orig repl : List ℕ) → inBounds (r .numbers) ≡ true → length d ≡ directoryLength (scale r .m)
-    → isIndex (scale r) (index d orig repl) ≡ locally (scale r) (take (length d / 2 - 0) d) orig (take (length d - length d / 2) (drop (length d / 2) d)) repl
+    → isIndex (scale r) (index d orig repl)
+    ≡ locally (scale r) (take (length d / 2 - 0) d) orig (take (length d - length d / 2) (drop (length d / 2) d)) repl
 unfolding directoryLength
 two-parts r d orig repl good long =
     let m = scale r .m in

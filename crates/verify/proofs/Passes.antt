@@ -1,8 +1,8 @@
 -- A turn, a stop and the end of each loop of the check: the test of what is left is the test of the whole.
-use mathlib.Core.Path.{_≡_, refl, ap, _∙_}
+use mathlib.Core.Path.{_≡_, refl, _∙_}
 use mathlib.Core.Bool.{Bool, true, false, _&&_, and-false}
 use mathlib.Core.List.{List, [], _∷_}
-use Prim.Native.Nat.{ℕ, zero, suc, _+_, _-_, _/_, _≤_, _<_}
+use Prim.Native.Nat.{ℕ, zero, suc, _+_, _/_, _≤_, _<_}
 use native.Mathlib.Numerals.{add-one}
 use native.Mathlib.Decide.{decLt}
 use native.Mathlib.Omega.{arith}
@@ -14,7 +14,7 @@ use Rattle.lists.proofs.Sums.{sumOver}
 use Rattle.trip.specs.declared.Trip.{Trip}
 use Rattle.layout.specs.Words.{entryWords, tripAt, rows}
 use Rattle.layout.proofs.Rows.{length-rows, getD-rows}
-use Rattle.verify.specs.Passing.{below, each, some, after, inRow, climbs, rising, blank}
+use Rattle.verify.specs.Passing.{below, each, after, inRow, climbs, rising, blank}
 
 -- ---- words
 

@@ -1,14 +1,14 @@
 -- The tests over lists and numbers, as facts.
 use mathlib.Core.Path.{_≡_, refl, subst}
-use mathlib.Core.Logic.{_⊎_, inl, inr}
-use mathlib.Core.Bool.{Bool, true, false, _&&_, _||_}
+use mathlib.Core.Logic.{inl, inr}
+use mathlib.Core.Bool.{Bool, true, false, _&&_}
 use mathlib.Core.List.{List, [], _∷_, List·Memᴰ as Mem, List·Memᴰ·head as here, List·Memᴰ·tail as there, List·Memᴰ·not-nil as not-nil}
 use Prim.Native.Nat.{ℕ, zero, suc, _<_}
 use native.Mathlib.Omega.{arith}
 use native.Mathlib.Decide.{decLt}
 use lib.Dec.{T}
 use Rattle.lists.proofs.Tests.{of-and, to-and, of-or, or-left, or-right}
-use Rattle.lists.proofs.Members.{Pairs, none, more}
+use Rattle.lists.proofs.Members.{none, more}
 use Rattle.lists.proofs.Sorting.{Sorted, StrictOrder}
 use Rattle.verify.specs.Passing.{below, each, some, after, inRow}
 

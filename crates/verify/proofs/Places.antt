@@ -1,7 +1,7 @@
 -- The partitions of a level, as the code computes them: the bounds of a partition's cells, the test of its parent, and the level of a
 -- partition's number found from the deepest level up.
 use mathlib.Core.Path.{_≡_, refl, sym, ap, _∙_}
-use mathlib.Core.Bool.{Bool, true, false, not, _&&_}
+use mathlib.Core.Bool.{true, not, _&&_}
 use Prim.Native.Nat.{ℕ, zero, suc, _+_, _-_, _*_, _/_, _^_, _≤_, _<_}
 use native.Mathlib.Nat.{mul-le-mul-right, two-pow-succ, le-trans}
 use native.Mathlib.Numerals.{add-one}
@@ -9,8 +9,7 @@ use native.Mathlib.Omega.{arith}
 use lib.Pow.{pow-pos, pow-mono, pow-add}
 use borrow.Author.Tests.{le-leb, lt-leb}
 use Rattle.ruler.specs.declared.Ruler.{Ruler}
-use Rattle.ruler.specs.Ruler.{deepest, inBounds, scale, scaleOf, cellUp}
-use Rattle.ruler.proofs.Levels.{up-bottom}
+use Rattle.ruler.specs.Ruler.{deepest, inBounds, scale, scaleOf}
 use Rattle.ruler.proofs.Fair.{Bounds, bounds}
 use Rattle.lists.proofs.Tests.{to-T}
 use Rattle.layout.specs.Stored.{within, holds}

@@ -1,5 +1,5 @@
 -- The local conditions on words: tests that lay nothing out anew, and that pass exactly where `isIndex` does (the law `locally-index`).
-use mathlib.Core.Bool.{Bool, true, false, cond, not, _&&_}
+use mathlib.Core.Bool.{Bool, cond, not, _&&_}
 use mathlib.Core.List.{List}
 use Prim.Native.Nat.{ℕ, zero, suc, _+_, _-_, _*_, _/_, _%_, _≤_, _<_}
 use lib.Dec.{leb, ltb, eqb}

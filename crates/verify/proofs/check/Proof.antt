@@ -1,15 +1,14 @@
 -- The tests 1, 3, 8 in their order.
-use mathlib.Core.Path.{_≡_, refl, sym, ap, _∙_}
+use mathlib.Core.Path.{sym, ap, _∙_}
 use mathlib.Core.Bool.{true, false}
 use borrow.Author.Tests.{not-true, not-false}
 use Rattle.ruler.specs.declared.Numbers.{Numbers}
 use Rattle.ruler.specs.Ruler.{scaleOf}
 use Rattle.ruler.proofs.Judging.{judged-good, judged-out}
 use Rattle.layout.specs.Words.{directoryLength}
-use Rattle.layout.specs.Refusals.{refuse, isIndex}
+use Rattle.layout.specs.Refusals.{refuse}
 use Rattle.layout.proofs.Checked.{check-bounds, check-length, check-words}
 use Rattle.verify.proofs.Places.{deep}
-use native.Mathlib.Omega.{arith}
 use borrow.Author.Needs.{needs}
 use Rattle.verify.proofs.check.Statement.{statement}
 use Rattle.verify.proofs.check.Tie as tie
@@ -41,7 +40,8 @@ unfolding scaleOf
 returns-2 c =
     let ruler = c .before .before .before .before .ruler .given in
     let made = judged-good _ (ruler .0 .0) (sym (c .before .before .before .before .before .before .new .ensures) ∙ ruler .1) in
-    let long = c .before .directory-length .ensures ∙ ap directoryLength (c .before .before .bottom .ensures ∙ ap (λ (k : Numbers). scaleOf k .m) (made .numbers)) in
+    let bottom = c .before .before .bottom .ensures ∙ ap (λ (k : Numbers). scaleOf k .m) (made .numbers) in
+    let long = c .before .directory-length .ensures ∙ ap directoryLength bottom in
     check-length _ _ (made .good) (λ e. c .if1 .taken (e ∙ sym long))
 
 is-index-requires : tie.Need-is-index-requires
@@ -55,7 +55,8 @@ unfolding scaleOf refuse
 returns-3 c =
     let ruler = c .before .before .before .before .before .before .ruler .given in
     let made = judged-good _ (ruler .0 .0) (sym (c .before .before .before .before .before .before .before .before .new .ensures) ∙ ruler .1) in
-    let long = c .before .before .before .directory-length .ensures ∙ ap directoryLength (c .before .before .before .before .bottom .ensures ∙ ap (λ (k : Numbers). scaleOf k .m) (made .numbers)) in
+    let bottom = c .before .before .before .before .bottom .ensures ∙ ap (λ (k : Numbers). scaleOf k .m) (made .numbers) in
+    let long = c .before .before .before .directory-length .ensures ∙ ap directoryLength bottom in
     let refused = rw (made .numbers) at (sym (c .before .is-index .ensures) ∙ not-true _ (c .if2 .taken)) in
     check-words _ _ false (made .good) (c .before .before .if1 .left ∙ long) refused
 
@@ -64,7 +65,8 @@ unfolding scaleOf refuse
 returns-4 c =
     let ruler = c .before .before .before .before .before .before .ruler .given in
     let made = judged-good _ (ruler .0 .0) (sym (c .before .before .before .before .before .before .before .before .new .ensures) ∙ ruler .1) in
-    let long = c .before .before .before .directory-length .ensures ∙ ap directoryLength (c .before .before .before .before .bottom .ensures ∙ ap (λ (k : Numbers). scaleOf k .m) (made .numbers)) in
+    let bottom = c .before .before .before .before .bottom .ensures ∙ ap (λ (k : Numbers). scaleOf k .m) (made .numbers) in
+    let long = c .before .before .before .directory-length .ensures ∙ ap directoryLength bottom in
     let passed = rw (made .numbers) at (sym (c .before .is-index .ensures) ∙ not-false _ (c .if2 .left)) in
     check-words _ _ true (made .good) (c .before .before .if1 .left ∙ long) passed
 

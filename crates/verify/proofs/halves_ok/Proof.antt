@@ -1,6 +1,5 @@
 -- Both halves are tested.
 use Rattle.verify.specs.Local.{halvesOk}
-use native.Mathlib.Omega.{arith}
 use borrow.Author.Needs.{needs}
 use Rattle.verify.proofs.halves_ok.Statement.{statement}
 use Rattle.verify.proofs.halves_ok.Tie as tie

@@ -1,5 +1,5 @@
 -- The two halves of the directory, and the law that the local tests are the definition's.
-use mathlib.Core.Path.{_≡_, refl, sym, ap, _∙_}
+use mathlib.Core.Path.{sym, _∙_}
 use Prim.Native.Nat.{_-_, _/_}
 use lib.ListN.{length, drop, length-take, length-drop}
 use Rattle.layout.specs.Words.{halfLength, directoryLength}

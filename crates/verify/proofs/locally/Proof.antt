@@ -1,10 +1,8 @@
 -- Each group of tests where the one before it passed.
-use mathlib.Core.Path.{_≡_, refl, sym, ap, _∙_}
+use mathlib.Core.Path.{sym, _∙_}
 use borrow.Author.Tests.{not-true, not-false}
 use Rattle.verify.specs.Local.{locally}
 use Rattle.verify.proofs.Parts.{some-words}
-use native.Mathlib.Omega.{arith}
-use borrow.Author.Needs.{needs}
 use Rattle.verify.proofs.locally.Statement.{statement}
 use Rattle.verify.proofs.locally.Tie as tie
 

@@ -1,23 +1,21 @@
 -- The three tests of `tripsOk`, each by its function, on the words of the entries.
-use mathlib.Core.Path.{_≡_, refl, sym, ap, _∙_}
 use Rattle.verify.specs.Local.{tripsOk}
 use Rattle.verify.proofs.Parts.{of-halves, of-slots, some-words, half-room, totals-fit, all-rows, few-rows}
 use native.Mathlib.Omega.{arith}
-use borrow.Author.Needs.{needs}
 use Rattle.verify.proofs.trips_ok.Statement.{statement}
 use Rattle.verify.proofs.trips_ok.Tie as tie
 
 words-of-requires : tie.Need-words-of-requires
-words-of-requires c κs = some-words _ (c .before .before .before .before .args .o .now) (c .before .before .before .before .pre .1 .0 .0)
+words-of-requires c κs = let g = c .before .before .before .before in some-words _ (g .args .o .now) (g .pre .1 .0 .0)
 
 words-of-requires-2 : tie.Need-words-of-requires-2
-words-of-requires-2 c κs = some-words _ (c .before .before .before .before .before .args .r .now) (c .before .before .before .before .before .pre .1 .0 .1)
+words-of-requires-2 c κs = let g = c .before .before .before .before .before in some-words _ (g .args .r .now) (g .pre .1 .0 .1)
 
 entries-of-requires : tie.Need-entries-of-requires
-entries-of-requires c κs = some-words _ (c .before .before .before .before .before .before .args .o .now) (c .before .before .before .before .before .before .pre .1 .0 .0)
+entries-of-requires c κs = let g = c .before .before .before .before .before .before in some-words _ (g .args .o .now) (g .pre .1 .0 .0)
 
 entries-of-requires-2 : tie.Need-entries-of-requires-2
-entries-of-requires-2 c κs = some-words _ (c .before .before .before .before .before .before .before .args .r .now) (c .before .before .before .before .before .before .before .pre .1 .0 .1)
+entries-of-requires-2 c κs = let g = c .before .before .before .before .before .before .before in some-words _ (g .args .r .now) (g .pre .1 .0 .1)
 
 add-entries : tie.Need-add-entries
 add-entries c =
@@ -80,14 +78,16 @@ counts-to-requires c κs =
     let g = c .before .before .before .before .before .before .before .before .before .before .before .before .before in
     let h = of-halves (g .args .o .now) (g .args .originals .now) (g .args .r .now) (g .args .replicas .now) (g .pre .1 .1 .0) in
     let s = of-slots _ (g .args .o .now) (g .args .originals .now) (g .args .r .now) (g .args .replicas .now) (g .pre .1 .1 .1) in
-    (g .pre .0, few-rows (g .args .o .now) (g .args .originals .now) _ (c .before .before .before .before .before .before .before .before .words-of .ensures) (h .0) (s .0))
+    let used = c .before .before .before .before .before .before .before .before .words-of .ensures in
+    (g .pre .0, few-rows (g .args .o .now) (g .args .originals .now) _ used (h .0) (s .0))
 
 returns : tie.Need-returns
 unfolding tripsOk
 returns c =
     let g = c .before .before .before .before .before .before .before .before .before .before .before .before .before .before .args in
-    let trips = all-rows (g .o .now) (g .originals .now) _ (c .before .before .before .before .before .before .before .before .before .words-of .ensures) in
-    let copies = all-rows (g .r .now) (g .replicas .now) _ (c .before .before .before .before .before .before .before .before .words-of2 .ensures) in
+    let copied = c .before .before .before .before .before .before .before .before in
+    let trips = all-rows (g .o .now) (g .originals .now) _ (copied .before .words-of .ensures) in
+    let copies = all-rows (g .r .now) (g .replicas .now) _ (copied .words-of2 .ensures) in
     rw (
       c .before .before .before .before .ids-differ .ensures,
       c .before .before .all-known .ensures,

@@ -1,7 +1,7 @@
 -- The sum so far, with that of the trips left, is that of all.
-use mathlib.Core.Path.{_≡_, refl, sym, ap, _∙_}
+use mathlib.Core.Path.{_≡_, refl, sym, _∙_}
 use mathlib.Core.Bool.{true, false}
-use Prim.Native.Nat.{ℕ, _+_, _-_, _*_, _≤_}
+use Prim.Native.Nat.{_+_, _-_, _*_, _≤_}
 use lib.ListN.{drop}
 use borrow.Author.Tests.{not-true, not-false}
 use Rattle.lists.proofs.Sums.{sumOver}
@@ -14,7 +14,6 @@ use Rattle.verify.specs.Local.{fitsTest, countsTo}
 use Rattle.verify.proofs.Places.{deep}
 use Rattle.verify.proofs.Passes.{each-more, each-stop, each-end, sum-more, sum-end}
 use native.Mathlib.Omega.{arith}
-use borrow.Author.Needs.{needs}
 use Rattle.verify.proofs.counting.counts_to.Statement.{statement}
 use Rattle.verify.proofs.counting.counts_to.Tie as tie
 

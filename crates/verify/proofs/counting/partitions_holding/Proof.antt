@@ -1,5 +1,5 @@
 -- The walk up the levels.
-use mathlib.Core.Path.{_≡_, refl, sym, ap, _∙_}
+use mathlib.Core.Path.{_≡_}
 use Prim.Native.Nat.{ℕ, suc, _+_, _-_, _*_, _^_, _≤_}
 use lib.Pow.{pow-mono}
 use Rattle.ruler.specs.Ruler.{deepest, scale}
@@ -68,7 +68,8 @@ loop-again c =
     let k = c .before .before .loop in
     let w = k .inv .0 in
     let got = c .held-here .ensures in
-    (walk-turn _ _ _ (k .level) (k .from) (k .to) (k .held) _ (c .held-here .result) (omega arith) w (got .1), omega arith, k .inv .2, omega arith, omega arith)
+    let up = walk-turn _ _ _ (k .level) (k .from) (k .to) (k .held) _ (c .held-here .result) (omega arith) w (got .1) in
+    (up, omega arith, k .inv .2, omega arith, omega arith)
 
 add-result : tie.Need-add-result Inv-loop μ-loop
 add-result c = omega arith
@@ -82,7 +83,8 @@ returns c =
     let high : k .to ≤ 1 = rw zero at (k .inv .0 .high) in
     let back : (b : ℕ) → b + 1 - 1 ≡ b = λ b. omega arith in
     let all = walk-end _ _ _ (k .level) (k .from) (k .to) (k .held) _ 1 zero (k .inv .0) (omega arith) in
-    let named = rw (c .before .before .before .bottom .ensures, c .before .before .before .before .before .bottom-cell .ensures, c .before .before .before .before .bottom-cell2 .ensures, back) at all in
+    let b = c .before .before .before in
+    let named = rw (b .bottom .ensures, b .before .before .bottom-cell .ensures, b .before .bottom-cell2 .ensures, back) at all in
     rw (held-in-all (scale r) (g .args .t)) (omega (arith, named))
 
 returns-2 : tie.Need-returns-2 Inv-loop μ-loop
@@ -94,7 +96,8 @@ returns-2 c =
     let high : k .to ≤ 1 = rw zero at (k .inv .0 .high) in
     let back : (b : ℕ) → b + 1 - 1 ≡ b = λ b. omega arith in
     let all = walk-end _ _ _ (k .level) (k .from) (k .to) (k .held) _ 0 zero (k .inv .0) (omega arith) in
-    let named = rw (c .before .before .before .bottom .ensures, c .before .before .before .before .before .bottom-cell .ensures, c .before .before .before .before .bottom-cell2 .ensures, back) at all in
+    let b = c .before .before .before in
+    let named = rw (b .bottom .ensures, b .before .before .bottom-cell .ensures, b .before .bottom-cell2 .ensures, back) at all in
     rw (held-in-all (scale r) (g .args .t)) (omega (arith, named))
 
 pub partitions-holding-spec : {M : Type 1} → statement M

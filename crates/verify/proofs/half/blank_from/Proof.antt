@@ -5,7 +5,6 @@ use lib.ListN.{length, drop}
 use Rattle.verify.specs.Passing.{blank}
 use Rattle.verify.proofs.Passes.{blank-more, blank-stop, blank-end}
 use native.Mathlib.Omega.{arith}
-use borrow.Author.Needs.{needs}
 use Rattle.verify.proofs.half.blank_from.Statement.{statement}
 use Rattle.verify.proofs.half.blank_from.Tie as tie
 

@@ -1,7 +1,5 @@
 -- The last word.
-use mathlib.Core.Path.{_∙_}
 use Rattle.verify.specs.Local.{total}
-use native.Mathlib.Omega.{arith}
 use borrow.Author.Needs.{needs}
 use Rattle.verify.proofs.half.entries_of.Statement.{statement}
 use Rattle.verify.proofs.half.entries_of.Tie as tie

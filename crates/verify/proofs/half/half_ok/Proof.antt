@@ -1,6 +1,5 @@
 -- The four tests of `halfOk`, each by its function.
 use Rattle.verify.specs.Local.{halfOk}
-use native.Mathlib.Omega.{arith}
 use borrow.Author.Needs.{needs}
 use Rattle.verify.proofs.half.half_ok.Statement.{statement}
 use Rattle.verify.proofs.half.half_ok.Tie as tie

@@ -1,8 +1,8 @@
 -- The trips left stand in a row after the last one met exactly if all of them stand in a row.
-use mathlib.Core.Path.{_≡_, refl, sym, ap, _∙_}
+use mathlib.Core.Path.{_≡_, sym, _∙_}
 use mathlib.Core.Bool.{true, false, _&&_}
-use Prim.Native.Nat.{_-_, _/_, _≤_}
-use lib.ListN.{length, drop}
+use Prim.Native.Nat.{_-_}
+use lib.ListN.{drop}
 use borrow.Author.Tests.{not-true, not-false}
 use Rattle.ruler.specs.Ruler.{scale}
 use Rattle.layout.specs.Words.{entryWords, tripAt, rows, order}
@@ -10,7 +10,6 @@ use Rattle.verify.specs.Passing.{after, inRow}
 use Rattle.verify.specs.Local.{standsAt}
 use Rattle.verify.proofs.Passes.{row-empty, row-first, row-fails, row-more, row-stop, row-end}
 use native.Mathlib.Omega.{arith}
-use borrow.Author.Needs.{needs}
 use Rattle.verify.proofs.half.in_row.Statement.{statement}
 use Rattle.verify.proofs.half.in_row.Tie as tie
 
@@ -78,7 +77,9 @@ returns-3 c =
     sym (row-stop (g .part .now) p (order (g .d)) (k .last) (k .k) (omega arith) fails) ∙ k .inv
 
 add-k : tie.Need-add-k Inv-loop μ-loop
-add-k c = omega (arith, c .before .before .before .before .loop-test .taken, c .before .before .before .before .before .before .before .before .before .before .before .good)
+add-k c =
+    let g = c .before .before .before .before .before .before .before .before .before .before .before in
+    omega (arith, c .before .before .before .before .loop-test .taken, g .good)
 
 loop-less : tie.Need-loop-less Inv-loop μ-loop
 loop-less c = omega arith

@@ -5,7 +5,6 @@ use lib.ListN.{length, getD, drop}
 use Rattle.verify.specs.Passing.{rising}
 use Rattle.verify.proofs.Passes.{rising-more, rising-stop, rising-end}
 use native.Mathlib.Omega.{arith}
-use borrow.Author.Needs.{needs}
 use Rattle.verify.proofs.half.rises.Statement.{statement}
 use Rattle.verify.proofs.half.rises.Tie as tie
 

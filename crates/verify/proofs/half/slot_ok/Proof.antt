@@ -1,9 +1,8 @@
 -- The partition of the slot is found by its number.
-use mathlib.Core.Path.{_≡_, refl, sym, ap, _∙_}
+use mathlib.Core.Path.{refl}
 use Rattle.ruler.specs.Ruler.{scale}
-use Rattle.layout.specs.Words.{partitions}
 use Rattle.verify.specs.Local.{slotOk}
-use Rattle.verify.proofs.Places.{deep, few-partitions, Placed, placed}
+use Rattle.verify.proofs.Places.{deep, few-partitions, placed}
 use native.Mathlib.Omega.{arith}
 use borrow.Author.Needs.{needs}
 use Rattle.verify.proofs.half.slot_ok.Statement.{statement}

@@ -1,7 +1,7 @@
 -- Every slot below k passes.
-use mathlib.Core.Path.{_≡_, refl, sym, ap, _∙_}
-use mathlib.Core.Bool.{Bool, true, false}
-use Prim.Native.Nat.{ℕ, _-_, _+_, _*_, _≤_, _<_}
+use mathlib.Core.Path.{_≡_, sym, _∙_}
+use mathlib.Core.Bool.{Bool, true}
+use Prim.Native.Nat.{ℕ, _-_, _*_, _≤_, _<_}
 use lib.ListN.{length}
 use borrow.Author.Tests.{not-true, not-false}
 use Rattle.ruler.specs.Ruler.{scale}
@@ -11,7 +11,6 @@ use Rattle.verify.specs.Local.{slotAt, slotOk, slotsOk}
 use Rattle.verify.proofs.Passes.{below-start, below-more, below-stop}
 use Rattle.verify.proofs.Cut.{slot-in}
 use native.Mathlib.Omega.{arith}
-use borrow.Author.Needs.{needs}
 use Rattle.verify.proofs.half.slots_ok.Statement.{statement}
 use Rattle.verify.proofs.half.slots_ok.Tie as tie
 

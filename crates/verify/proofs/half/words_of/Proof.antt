@@ -1,6 +1,5 @@
 -- Whole entries before the end.
 use Rattle.verify.specs.Local.{total}
-use native.Mathlib.Omega.{arith}
 use borrow.Author.Needs.{needs}
 use Rattle.verify.proofs.half.words_of.Statement.{statement}
 use Rattle.verify.proofs.half.words_of.Tie as tie

@@ -1,5 +1,5 @@
 -- What is left climbs from the last id on exactly if the whole does.
-use mathlib.Core.Path.{_≡_, refl, sym, ap, _∙_}
+use mathlib.Core.Path.{_≡_, sym, _∙_}
 use mathlib.Core.Bool.{true}
 use Prim.Native.Nat.{_-_}
 use lib.Dec.{ltb}
@@ -7,7 +7,6 @@ use lib.ListN.{length, drop}
 use Rattle.verify.specs.Passing.{after, climbs}
 use Rattle.verify.proofs.Passes.{ids-none, ids-first, ids-more, ids-stop, ids-end}
 use native.Mathlib.Omega.{arith}
-use borrow.Author.Needs.{needs}
 use Rattle.verify.proofs.ids.climb.Statement.{statement}
 use Rattle.verify.proofs.ids.climb.Tie as tie
 

@@ -1,7 +1,6 @@
 -- The copy of the ids, in order, is their ascending list.
 use mathlib.Core.Path.{_∙_}
 use Rattle.verify.proofs.Differing.{copied}
-use native.Mathlib.Omega.{arith}
 use borrow.Author.Needs.{needs}
 use Rattle.verify.proofs.ids.differ_in.Statement.{statement}
 use Rattle.verify.proofs.ids.differ_in.Tie as tie
@@ -40,7 +39,8 @@ returns : tie.Need-returns
 returns c =
     let copy = c .before .before .before .before .before .before .before .before .before .copy-ids in
     let part = c .before .before .before .before .before .before .before .before .before .before .before .before .before .args .part .now in
-    c .climb .ensures ∙ copied (copy .result) part _ _ _ _ (copy .ensures .0) (copy .ensures .1) (c .before .before .before .before .before .sort-ids .ensures)
+    let sorted = c .before .before .before .before .before .sort-ids .ensures in
+    c .climb .ensures ∙ copied (copy .result) part _ _ _ _ (copy .ensures .0) (copy .ensures .1) sorted
 
 pub differ-in-spec : {M : Type 1} → statement M
 differ-in-spec =

@@ -1,5 +1,5 @@
 -- The trips left are all known exactly if all of them are.
-use mathlib.Core.Path.{_≡_, refl, sym, ap, _∙_}
+use mathlib.Core.Path.{_≡_, refl, sym, _∙_}
 use mathlib.Core.Bool.{true, false}
 use Prim.Native.Nat.{_-_}
 use lib.ListN.{drop}
@@ -10,7 +10,6 @@ use Rattle.verify.specs.Passing.{each}
 use Rattle.verify.specs.Local.{isKnown}
 use Rattle.verify.proofs.Passes.{each-more, each-stop, each-end}
 use native.Mathlib.Omega.{arith}
-use borrow.Author.Needs.{needs}
 use Rattle.verify.proofs.origin.all_known.Statement.{statement}
 use Rattle.verify.proofs.origin.all_known.Tie as tie
 

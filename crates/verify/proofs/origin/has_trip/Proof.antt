@@ -1,8 +1,7 @@
 -- What precedes the trip stands before what does not; the two meet where it can stand.
-use mathlib.Core.Path.{_≡_, refl, sym, ap, _∙_}
+use mathlib.Core.Path.{_≡_}
 use mathlib.Core.Bool.{true, false}
 use Prim.Native.Nat.{_+_, _-_, _/_, _≤_}
-use lib.ListN.{length}
 use Rattle.layout.specs.declared.Subdivision.the-variants.{OIn}
 use Rattle.layout.specs.Words.{entryWords, tripAt, order}
 use Rattle.verify.proofs.Halving.{Meeting, search-start, search-up, search-down, search-found, search-none}

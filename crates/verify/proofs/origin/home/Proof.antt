@@ -1,5 +1,4 @@
 -- The partition of the first cell on the home level, and whether the trip ends there.
-use mathlib.Core.Path.{_≡_, refl, sym, ap, _∙_}
 use Prim.Native.Nat.{_≤_}
 use Rattle.ruler.specs.Ruler.{scale}
 use Rattle.layout.specs.Stored.{isIn}
@@ -35,21 +34,24 @@ cell-at-requires c κs =
 cell-at-requires-2 : tie.Need-cell-at-requires-2
 cell-at-requires-2 c κs =
     let g = c .before .before .before .before .before .before .before in
-    let level = rw (c .before .before .before .before .bottom .ensures, c .before .before .before .bottom-cell .ensures, c .before .before .bottom-cell2 .ensures) at (c .before .home-level .ensures) in
+    let k = c .before in
+    let level = rw (k .before .before .before .bottom .ensures, k .before .before .bottom-cell .ensures, k .before .bottom-cell2 .ensures) at (k .home-level .ensures) in
     (g .pre .0, rw level (level-deep (g .args .ruler) (g .args .t) (g .pre .0) (g .pre .1)))
 
 slot-number-requires : tie.Need-slot-number-requires
 slot-number-requires c κs =
     let g = c .before .before .before .before .before .before .before .before in
     let r = g .args .ruler in
-    let level = rw (c .before .before .before .before .before .bottom .ensures, c .before .before .before .before .bottom-cell .ensures, c .before .before .before .bottom-cell2 .ensures) at (c .before .before .home-level .ensures) in
+    let k = c .before .before in
+    let level = rw (k .before .before .before .bottom .ensures, k .before .before .bottom-cell .ensures, k .before .bottom-cell2 .ensures) at (k .home-level .ensures) in
     let h : c .before .before .home-level .result ≤ scale r .m = rw level (level-deep r (g .args .t) (g .pre .0) (g .pre .1)) in
     (omega (arith, deep r (g .pre .0)), rw (c .before .cell-at .ensures) (place-there r (g .args .t) (g .pre .0) (g .pre .1) _ h))
 
 returns : tie.Need-returns
 unfolding home homeAt isIn
 returns c =
-    let level = rw (c .before .before .before .before .before .before .bottom .ensures, c .before .before .before .before .before .bottom-cell .ensures, c .before .before .before .before .bottom-cell2 .ensures) at (c .before .before .before .home-level .ensures) in
+    let k = c .before .before .before in
+    let level = rw (k .before .before .before .bottom .ensures, k .before .before .bottom-cell .ensures, k .before .bottom-cell2 .ensures) at (k .home-level .ensures) in
     rw (c .slot-number .ensures, c .before .cell-at2 .ensures, c .before .before .cell-at .ensures, level)
 
 pub home-spec : {M : Type 1} → statement M

@@ -1,5 +1,5 @@
 -- A trip that fits is looked for in the slot of its original.
-use mathlib.Core.Path.{_≡_, refl, sym, ap, _∙_}
+use mathlib.Core.Path.{sym, _∙_}
 use Prim.Native.Nat.{_*_, _<_}
 use borrow.Author.Tests.{not-true, not-false}
 use Rattle.ruler.specs.Ruler.{scale}
@@ -8,7 +8,6 @@ use Rattle.verify.specs.Local.{isKnown}
 use Rattle.verify.proofs.Home.{home-in}
 use Rattle.verify.proofs.Cut.{slot-in}
 use Rattle.verify.proofs.Halving.{slot-climbs}
-use native.Mathlib.Omega.{arith}
 use borrow.Author.Needs.{needs}
 use Rattle.verify.proofs.origin.is_known.Statement.{statement}
 use Rattle.verify.proofs.origin.is_known.Tie as tie

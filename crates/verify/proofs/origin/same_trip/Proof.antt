@@ -1,6 +1,5 @@
 -- The three words are compared.
 use Rattle.verify.specs.Local.{sameTrip}
-use native.Mathlib.Omega.{arith}
 use borrow.Author.Needs.{needs}
 use Rattle.verify.proofs.origin.same_trip.Statement.{statement}
 use Rattle.verify.proofs.origin.same_trip.Tie as tie

@@ -1,8 +1,6 @@
 -- At level m the cell of a time is its level-m cell.
-use mathlib.Core.Path.{_∙_}
 use Rattle.ruler.specs.Ruler.{scale}
 use Rattle.ruler.proofs.Levels.{up-bottom}
-use native.Mathlib.Omega.{arith}
 use borrow.Author.Needs.{needs}
 use Rattle.verify.proofs.partition.bottom_cell.Statement.{statement}
 use Rattle.verify.proofs.partition.bottom_cell.Tie as tie

@@ -1,5 +1,4 @@
 -- The number of the cell that the ruler gives.
-use native.Mathlib.Omega.{arith}
 use borrow.Author.Needs.{needs}
 use Rattle.verify.proofs.partition.cell_at.Statement.{statement}
 use Rattle.verify.proofs.partition.cell_at.Tie as tie

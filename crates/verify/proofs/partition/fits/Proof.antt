@@ -1,6 +1,5 @@
 -- The three tests of `fitsTest`.
 use Rattle.verify.specs.Local.{fitsTest}
-use native.Mathlib.Omega.{arith}
 use borrow.Author.Needs.{needs}
 use Rattle.verify.proofs.partition.fits.Statement.{statement}
 use Rattle.verify.proofs.partition.fits.Tie as tie

@@ -1,7 +1,6 @@
 -- A partition of level 0 has no parent; the parent of another is on the level above.
 use Rattle.verify.proofs.Places.{holds-top, holds-below, parent-lt}
 use mathlib.Core.Path.{_≡_, sym}
-use Prim.Native.Nat.{ℕ}
 use native.Mathlib.Omega.{arith}
 use borrow.Author.Needs.{needs}
 use Rattle.verify.proofs.partition.holds.Statement.{statement}

@@ -1,7 +1,6 @@
 -- The partition is asked of the cells of the trip.
 use Rattle.layout.specs.Stored.{holdsTrip}
 use Rattle.verify.proofs.Places.{deep}
-use native.Mathlib.Omega.{arith}
 use borrow.Author.Needs.{needs}
 use Rattle.verify.proofs.partition.holds_trip.Statement.{statement}
 use Rattle.verify.proofs.partition.holds_trip.Tie as tie
@@ -22,7 +21,9 @@ holds-requires c κs =
 
 returns : tie.Need-returns
 unfolding holdsTrip
-returns c = rw (c .holds .ensures, c .before .before .before .bottom .ensures, c .before .before .bottom-cell .ensures, c .before .bottom-cell2 .ensures)
+returns c =
+    let m = c .before .before .before .bottom .ensures in
+    rw (c .holds .ensures, m, c .before .before .bottom-cell .ensures, c .before .bottom-cell2 .ensures)
 
 pub holds-trip-spec : {M : Type 1} → statement M
 holds-trip-spec =

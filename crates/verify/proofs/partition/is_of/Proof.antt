@@ -1,6 +1,5 @@
 -- Each subdivision has its line of `isOf`.
 use Rattle.layout.specs.Stored.{isOf}
-use native.Mathlib.Omega.{arith}
 use borrow.Author.Needs.{needs}
 use Rattle.verify.proofs.partition.is_of.Statement.{statement}
 use Rattle.verify.proofs.partition.is_of.Tie as tie

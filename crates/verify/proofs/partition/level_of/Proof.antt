@@ -5,7 +5,6 @@ use lib.Pow.{pow-pos}
 use Rattle.layout.specs.Words.{levelOf}
 use Rattle.verify.proofs.Places.{level-stop, level-turn, level-end}
 use native.Mathlib.Omega.{arith}
-use borrow.Author.Needs.{needs}
 use Rattle.verify.proofs.partition.level_of.Statement.{statement}
 use Rattle.verify.proofs.partition.level_of.Tie as tie
 

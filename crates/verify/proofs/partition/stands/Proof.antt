@@ -1,7 +1,6 @@
 -- The tests of `standsAt`, each by its function.
 use Rattle.layout.specs.Stored.{belongs, isOriginal, isIn}
 use Rattle.verify.specs.Local.{standsAt}
-use native.Mathlib.Omega.{arith}
 use borrow.Author.Needs.{needs}
 use Rattle.verify.proofs.partition.stands.Statement.{statement}
 use Rattle.verify.proofs.partition.stands.Tie as tie
