@@ -13,3 +13,6 @@ pub mod Reported
 pub mod Edited
 pub mod Walk
 pub mod Starred
+pub mod Counted
+pub mod Checked
+pub mod Local

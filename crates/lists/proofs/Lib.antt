@@ -7,3 +7,5 @@ pub mod Upto
 pub mod Same
 pub mod Padded
 pub mod Sifting
+pub mod Sublists
+pub mod Sums
