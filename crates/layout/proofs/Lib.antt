@@ -16,3 +16,5 @@ pub mod Starred
 pub mod Counted
 pub mod Checked
 pub mod Local
+pub mod Reading
+pub mod Viewed
