@@ -18,3 +18,4 @@ pub mod Checked
 pub mod Local
 pub mod Reading
 pub mod Viewed
+pub mod ByLevel

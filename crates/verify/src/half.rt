@@ -12,11 +12,11 @@ use store::entry::trip_at;
 ghost use mathlib.Core.Path.{_≡_};
 ghost use mathlib.Core.Bool.{true};
 ghost use Prim.Native.Nat.{_+_, _*_, _^_, _<_, _≤_};
-ghost use lib.ListN.{length, getD, take, drop};
+ghost use lib.ListN.{length, getD, drop};
 ghost use Rattle.ruler.specs.Ruler.{inBounds, scale};
 ghost use Rattle.layout.specs.Words.{entryWords, rows, order, partitions, halfLength};
 ghost use Rattle.verify.specs.Passing.{inRow, rising, blank};
-ghost use Rattle.verify.specs.Local.{total, halfOk, SlotIn, slotWords, standsAt, slotOk, slotsOk};
+ghost use Rattle.verify.specs.Local.{total, halfOk, SlotIn, slotAt, standsAt, slotOk, slotsOk};
 
 pub fn wide(word: u32) -> usize
     ensures { λ r. ⌜ r ≡ word ⌝ }
@@ -30,6 +30,14 @@ pub fn entries_of(dir: &[u32]) -> usize
     ensures { λ r. ⌜ r ≡ total (now (dir .entry)) ⌝ }
 {
     wide(dir[dir.len() - 1])
+}
+
+// The words that the entries of a half take.
+pub fn words_of(dir: &[u32]) -> usize
+    requires { ⌜ 0 < length (now dir) ⌝ }
+    ensures { λ r. ⌜ r ≡ entryWords * total (now (dir .entry)) ⌝ }
+{
+    offset(dir, dir.len() - 1)
 }
 
 // Whether no word is below the one before it.
@@ -69,21 +77,19 @@ pub fn half_ok(dir: &[u32], arena: &[u32]) -> bool
     requires { ⌜ 0 < length (now dir) ⌝ }
     ensures { λ r. ⌜ r ≡ halfOk (now (dir .entry)) (now (arena .entry)) ⌝ }
 {
-    let used = ENTRY_WORDS * entries_of(dir);
+    let used = words_of(dir);
     let first = dir[0];
     let up = rises(dir);
     let tail = blank_from(arena, used);
     (first == 0) & (up & ((used <= arena.len()) & tail))
 }
 
-// The words of slot k.
-pub fn slot_words<'a>(dir: &'a [u32], arena: &'a [u32], k: usize) -> &'a [u32]
-    requires { ⌜ SlotIn (now dir) (now arena) k ⌝ }
-    ensures { λ r. ⌜ now r ≡ slotWords (now (dir .entry)) (now (arena .entry)) k ⌝ }
+// The word of the arena at which slot k begins.
+pub fn offset(dir: &[u32], k: usize) -> usize
+    requires { ⌜ k < length (now dir) ⌝ }
+    ensures { λ r. ⌜ r ≡ entryWords * getD (now (dir .entry)) k 0 ⌝ }
 {
-    let from = ENTRY_WORDS * wide(dir[k]);
-    let to = ENTRY_WORDS * wide(dir[k + 1]);
-    &arena[from..to]
+    ENTRY_WORDS * wide(dir[k])
 }
 
 // Whether each entry of a part may stand in this subdivision of partition i of a level, and comes after the one before it.
@@ -125,8 +131,19 @@ fn slot_ok(ruler: Ruler, half: Half, k: usize, part: &[u32]) -> bool
     in_row(ruler, d, level, p - first, part)
 }
 
-// Whether every slot of a half is as it should be.
-pub fn slots_ok<'a>(ruler: Ruler, half: Half, dir: &'a [u32], arena: &'a [u32]) -> bool
+// Whether slot k of a half is as it should be.
+fn slot_at(ruler: Ruler, half: Half, dir: &[u32], arena: &[u32], k: usize) -> bool
+    requires { ⌜ inBounds (ruler .numbers) ≡ true ⌝ }
+    requires { ⌜ (k < 2 * partitions (scale ruler .m)) × SlotIn (now dir) (now arena) k ⌝ }
+    ensures { λ r. ⌜ r ≡ slotOk (scale ruler) half k (slotAt (now (dir .entry)) (now (arena .entry)) k) ⌝ }
+{
+    let from = offset(dir, k);
+    let to = offset(dir, k + 1);
+    slot_ok(ruler, half, k, &arena[from..to])
+}
+
+// Whether every slot of a half is.
+pub fn slots_ok(ruler: Ruler, half: Half, dir: &[u32], arena: &[u32]) -> bool
     requires { ⌜ inBounds (ruler .numbers) ≡ true ⌝ }
     requires { ⌜ length (now dir) ≡ halfLength (scale ruler .m) ⌝ }
     requires { ⌜ halfOk (now dir) (now arena) ≡ true ⌝ }
@@ -135,7 +152,7 @@ pub fn slots_ok<'a>(ruler: Ruler, half: Half, dir: &'a [u32], arena: &'a [u32]) 
     let n = dir.len() - 1;
     let mut k: usize = 0;
     while k < n {
-        if !slot_ok(ruler, half, k, slot_words(dir, arena, k)) {
+        if !slot_at(ruler, half, dir, arena, k) {
             return false;
         }
         k += 1;

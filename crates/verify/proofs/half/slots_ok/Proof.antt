@@ -29,25 +29,21 @@ loop-holds : tie.Need-loop-holds Inv-loop μ-loop
 unfolding halfLength
 loop-holds c = (omega arith, below-start _)
 
-slot-words-requires : tie.Need-slot-words-requires Inv-loop μ-loop
+slot-at-requires : tie.Need-slot-at-requires Inv-loop μ-loop
 unfolding halfLength
-slot-words-requires c κs =
+slot-at-requires c κs =
     let g = c .before .before .before .before in
-    let n = 2 * partitions (scale (g .args .ruler) .m) in
-    slot-in (g .args .dir .now) (g .args .arena .now) n (g .pre .1 .0) (g .pre .1 .1) (c .before .loop .k) (omega arith)
-
-slot-ok-requires : tie.Need-slot-ok-requires Inv-loop μ-loop
-unfolding halfLength
-slot-ok-requires c κs = (c .before .before .before .before .before .pre .0, omega (arith, c .before .before .before .before .before .pre .1 .0))
+    let k = c .before .loop .k in
+    let l : k < 2 * partitions (scale (g .args .ruler) .m) = omega (arith, g .pre .1 .0) in
+    (g .pre .0, (l, slot-in (g .args .dir .now) (g .args .arena .now) _ (g .pre .1 .0) (g .pre .1 .1) k l))
 
 returns : tie.Need-returns Inv-loop μ-loop
-unfolding slotsOk slotAt
+unfolding slotsOk
 returns c =
-    let g = c .before .before .before .before .before .before .before .args in
-    let k = c .before .before .before .before .loop .k in
+    let g = c .before .before .before .before .before .before .args in
+    let k = c .before .before .before .loop .k in
     let f : ℕ → Bool = λ j. slotOk (scale (g .ruler)) (g .half) j (slotAt (g .dir .now) (g .arena .now) j) in
-    let fails : f k ≡ false = rw (← c .before .before .slot-words .ensures) (sym (c .before .slot-ok .ensures) ∙ not-true _ (c .if1 .taken)) in
-    sym (below-stop f (length (g .dir .now) - 1) k (omega arith) fails)
+    sym (below-stop f (length (g .dir .now) - 1) k (omega arith) (sym (c .before .slot-at .ensures) ∙ not-true _ (c .if1 .taken)))
 
 add-k : tie.Need-add-k Inv-loop μ-loop
 add-k c = omega arith
@@ -56,12 +52,9 @@ loop-less : tie.Need-loop-less Inv-loop μ-loop
 loop-less c = omega arith
 
 loop-again : tie.Need-loop-again Inv-loop μ-loop
-unfolding slotAt
 loop-again c =
-    let g = c .before .before .before .before .before .before .before .args in
-    let k = c .before .before .before .before .loop in
-    let passes = rw (c .before .before .slot-words .ensures) at (sym (c .before .slot-ok .ensures) ∙ not-false _ (c .if1 .left)) in
-    (omega arith, below-more _ (k .k) (k .inv .1) passes)
+    let k = c .before .before .before .loop in
+    (omega arith, below-more _ (k .k) (k .inv .1) (sym (c .before .slot-at .ensures) ∙ not-false _ (c .if1 .left)))
 
 returns-2 : tie.Need-returns-2 Inv-loop μ-loop
 unfolding slotsOk
@@ -78,8 +71,7 @@ slots-ok-spec =
     μ-loop
     sub-n
     loop-holds
-    slot-words-requires
-    slot-ok-requires
+    slot-at-requires
     returns
     add-k
     loop-less
