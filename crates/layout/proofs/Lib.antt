@@ -19,3 +19,4 @@ pub mod Local
 pub mod Reading
 pub mod Viewed
 pub mod ByLevel
+pub mod Totals

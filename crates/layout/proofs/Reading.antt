@@ -1,9 +1,9 @@
 -- An index read by its directory: the slot of a partition's side, the word of a slot, the entries of a slot as a part of the arena, and the
 -- entries of a level's slots added up.
-use mathlib.Core.Path.{_≡_, refl, sym, ap, _∙_}
+use mathlib.Core.Path.{_≡_, sym, ap, _∙_}
 use mathlib.Core.Bool.{Bool, true, false}
 use mathlib.Core.List.{List, _++_, append-assoc}
-use Prim.Native.Nat.{ℕ, zero, suc, _+_, _-_, _*_, _/_, _%_, _^_, _≤_, _<_}
+use Prim.Native.Nat.{ℕ, suc, _+_, _-_, _*_, _/_, _%_, _^_, _≤_, _<_}
 use native.Mathlib.Numerals.{add-one}
 use native.Mathlib.Omega.{arith}
 use lib.ListN.{length, getD, take, drop, replicate, List·getD-append, length-append}
@@ -15,12 +15,11 @@ use Rattle.ruler.specs.Ruler.{Scale}
 use Rattle.trip.specs.declared.Trip.{Trip}
 use Rattle.layout.specs.declared.Half.{Half}
 use Rattle.layout.specs.declared.Half.the-variants.{Originals, Replicas}
-use Rattle.layout.specs.declared.Subdivision.{Subdivision}
 use Rattle.layout.specs.Stored.{subdivisionOf}
 use Rattle.layout.specs.Words.{entryWords, words, partitions, halfLength, partitionNumber, slotNumber, slotTrips, slot, entriesBefore, entries, directoryHalf, arena, Index, lengthsOf, layout}
 use Rattle.layout.specs.Refusals.{tableOf}
 use Rattle.layout.proofs.Numbers.{level-number, place-number, number-lt}
-use Rattle.layout.proofs.Rows.{words-append, words-length, words-add, words-le}
+use Rattle.layout.proofs.Rows.{words-append, words-length, words-add}
 use Rattle.layout.proofs.Indexes.{directoryHalf-length, Indexed}
 
 -- ---- the slot of a side of partition i of level L

@@ -1,10 +1,10 @@
 -- What the census and a run give by the outcome of their chains, and what an accepted run tells.
-use mathlib.Core.Path.{_≡_, refl, sym, ap, _∙_}
-use mathlib.Core.Bool.{Bool, true, false, not, _||_}
-use mathlib.Core.List.{List, []}
+use mathlib.Core.Path.{_≡_, sym, ap, _∙_}
+use mathlib.Core.Bool.{Bool, _||_}
+use mathlib.Core.List.{[]}
 use Prim.Native.Nat.{ℕ, _^_, _≤_, _<_}
-use lib.Dec.{T, leb, ltb, nltb→le, nleb→lt}
-use Rattle.lists.proofs.Tests.{of-nor, of-not-not, of-T}
+use lib.Dec.{leb, ltb, nltb→le, nleb→lt}
+use Rattle.lists.proofs.Tests.{of-nor}
 use Rattle.ruler.specs.Ruler.{Scale}
 use Rattle.layout.specs.declared.Refusal.{Refusal}
 use Rattle.layout.specs.declared.Refusal.the-variants.{NoSuchSlot}
@@ -15,7 +15,7 @@ use Rattle.layout.specs.Words.{Index}
 use Rattle.layout.specs.Answers.{lastSubdivision, subdivisionNumbered, census, runWords, runFrom}
 use Rattle.layout.specs.Refusals.{refuse, noSuchSlot, tableOf, checkOutcome, runOutcome}
 use Rattle.layout.specs.Calls.{ifAccepted, noCensus, censusOf, runOf, runFromOf}
-use Rattle.layout.proofs.Chains.{refuse-no, refuse-pass, refuse-taken}
+use Rattle.layout.proofs.Chains.{refuse-no}
 use Rattle.layout.proofs.Indexes.{Indexed}
 use Rattle.layout.proofs.Edited.{of-indexTests}
 use Rattle.layout.proofs.Checked.{refused-for-all, passed}

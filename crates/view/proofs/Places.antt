@@ -1,10 +1,10 @@
 -- Where the words of slots stand in a directory, and that they rise: bounds for the code that reads them.
-use mathlib.Core.Path.{_≡_, refl, sym, ap, _∙_}
+use mathlib.Core.Path.{_≡_, refl}
 use mathlib.Core.Bool.{Bool}
 use mathlib.Core.List.{List}
 use Prim.Native.Nat.{ℕ, zero, suc, _+_, _-_, _*_, _^_, _≤_, _<_}
 use native.Mathlib.Omega.{arith}
-use lib.ListN.{length, getD}
+use lib.ListN.{getD}
 use lib.Pow.{pow-pos, pow-mono}
 use Rattle.ruler.specs.Ruler.{deepest}
 use Rattle.layout.specs.declared.Half.{Half}

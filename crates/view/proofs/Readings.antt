@@ -1,13 +1,13 @@
 -- On the words of an index, what the directory says is the census and the run of the table.
-use mathlib.Core.Path.{_≡_, refl, sym, ap, ap₂, _∙_}
+use mathlib.Core.Path.{_≡_, refl, ap, _∙_}
 use mathlib.Core.Bool.{Bool, true, false, cond}
-use mathlib.Core.List.{List, [], _∷_}
+use mathlib.Core.List.{List}
 use Prim.Native.Nat.{ℕ, zero, suc, _+_, _-_, _*_, _^_, _≤_, _<_}
 use native.Mathlib.Omega.{arith}
 use lib.Dec.{leb}
 use lib.ListN.{length, getD, take, drop, length-append}
 use borrow.Author.Tests.{leb-true}
-use Rattle.lists.specs.Lists.{joined, upTo}
+use Rattle.lists.specs.Lists.{joined}
 use Rattle.lists.proofs.Upto.{upTo-ext}
 use Rattle.ruler.specs.Ruler.{Scale, deepest}
 use Rattle.trip.specs.declared.Trip.{Trip}
@@ -15,15 +15,15 @@ use Rattle.layout.specs.declared.Half.{Half}
 use Rattle.layout.specs.declared.Half.the-variants.{Originals, Replicas}
 use Rattle.layout.specs.declared.Subdivision.{Subdivision}
 use Rattle.layout.specs.declared.Subdivision.the-variants.{OIn, OAft, RIn, RAft}
-use Rattle.layout.specs.Stored.{partitionsAt, subdivisionOf}
-use Rattle.layout.specs.Words.{entryWords, words, partitions, halfLength, directoryLength, slotNumber, slotTrips, slot, entriesBefore, entries, arena, Index, lengthsOf}
+use Rattle.layout.specs.Stored.{partitionsAt}
+use Rattle.layout.specs.Words.{entryWords, words, partitions, halfLength, slotNumber, slotTrips, slot, entriesBefore, entries, arena, Index, lengthsOf}
 use Rattle.layout.specs.Refusals.{tableOf}
 use Rattle.layout.specs.Answers.{halfOf, isAft, levelCount, levelRow, census, runWords, runFrom}
 use Rattle.layout.proofs.Subdivisions.{of-half-and-side}
 use Rattle.layout.proofs.Rows.{words-le}
 use Rattle.layout.proofs.Indexes.{Indexed}
 use Rattle.layout.proofs.Reading.{slot-numbered, slot-inside, slots-apart, before-more, before-le, slot-part, originals-are, replicas-are, originals-word, replicas-word}
-use Rattle.view.specs.Directory.{halfFrom, slotAt, arenaOf, everySecond, countOf, rowOf, rowsOf, partOf, Rising, Halves, SlotIn}
+use Rattle.view.specs.Directory.{halfFrom, slotAt, arenaOf, everySecond, countOf, rowOf, rowsOf, partOf, Halves, SlotIn}
 use Rattle.view.proofs.Places.{half-fits, slot-fits}
 
 module _ (s : Scale) (x : Index) (w : Indexed s x) where

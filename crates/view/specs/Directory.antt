@@ -12,7 +12,7 @@ use Rattle.layout.specs.declared.Half.the-variants.{Originals, Replicas}
 use Rattle.layout.specs.declared.Subdivision.{Subdivision}
 use Rattle.layout.specs.declared.Subdivision.the-variants.{OIn, OAft, RIn, RAft}
 use Rattle.layout.specs.Stored.{partitionsAt}
-use Rattle.layout.specs.Words.{entryWords, partitions, halfLength, directoryLength, slotNumber}
+use Rattle.layout.specs.Words.{entryWords, halfLength, slotNumber}
 use Rattle.layout.specs.Answers.{halfOf, isAft}
 
 -- "2P + 1 for originals, then 2P + 1 for replicas": the words of the directory before those of a half

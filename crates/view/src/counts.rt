@@ -1,4 +1,6 @@
 // How many entries each subdivision of each level has, read off the directory.
+use crate::LEVELS;
+use crate::SUBDIVISIONS;
 use crate::slots::slot_at;
 use crate::slots::wide;
 use layout::Subdivision;
@@ -6,8 +8,6 @@ use ruler::power;
 ghost use mathlib.Core.Path.{_≡_};
 ghost use Prim.Native.Nat.{_*_, _≤_};
 ghost use Rattle.view.specs.Directory.{everySecond, countOf, rowOf, rowsOf, Rising, Halves};
-
-const LEVELS: usize = 11;
 
 // The entries of n slots, each the second after the one before it: the "in" slots of a level, or its "aft" slots.
 fn every_second(directory: &[u32], from: usize, n: usize) -> u32
@@ -33,12 +33,12 @@ fn level_count(directory: &[u32], m: u32, level: u32, d: Subdivision) -> u32
 }
 
 // The entries of the four subdivisions of a level: none of a level above m.
-fn level_row(directory: &[u32], m: u32, level: u32) -> [u32; 4]
+fn level_row(directory: &[u32], m: u32, level: u32) -> [u32; SUBDIVISIONS]
     requires { ⌜ Halves m (now directory) ⌝ }
     ensures { λ r. ⌜ r ≡ rowOf (now (directory .entry)) m level ⌝ }
 {
     if m < level {
-        return [0; 4];
+        return [0; SUBDIVISIONS];
     }
     let o_in = level_count(directory, m, level, Subdivision::OIn);
     let o_aft = level_count(directory, m, level, Subdivision::OAft);
@@ -48,11 +48,11 @@ fn level_row(directory: &[u32], m: u32, level: u32) -> [u32; 4]
 }
 
 // The rows of all levels.
-pub fn level_rows(directory: &[u32], m: u32) -> [[u32; 4]; 11]
+pub fn level_rows(directory: &[u32], m: u32) -> [[u32; SUBDIVISIONS]; LEVELS]
     requires { ⌜ Halves m (now directory) ⌝ }
     ensures { λ r. ⌜ r ≡ rowsOf (now (directory .entry)) m ⌝ }
 {
-    let mut rows = [[0u32; 4]; LEVELS];
+    let mut rows = [[0u32; SUBDIVISIONS]; LEVELS];
     let mut level: usize = 0;
     while level < LEVELS {
         let row = level_row(directory, m, level as u32);

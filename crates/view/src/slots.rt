@@ -6,9 +6,7 @@ use ruler::power;
 use store::places::slot_number;
 ghost use mathlib.Core.Path.{_≡_};
 ghost use Prim.Native.Nat.{_+_, _-_, _*_, _^_, _<_, _≤_};
-ghost use lib.ListN.{length, getD};
 ghost use Rattle.ruler.specs.Ruler.{deepest};
-ghost use Rattle.layout.specs.Words.{entryWords};
 ghost use Rattle.layout.specs.Answers.{halfOf, isAft, subdivisionNumbered};
 ghost use Rattle.view.specs.Directory.{halfFrom, slotAt, arenaOf, partOf, SlotIn};
 
@@ -72,7 +70,7 @@ pub fn slot_at(m: u32, level: u32, i: u32, d: Subdivision) -> usize
 }
 
 // The part of an arena that the entries of a slot have.
-fn slot_part<'a>(directory: &'a [u32], arena: &'a [u32], at: usize) -> &'a [u32]
+fn slot_part<'a>(directory: &[u32], arena: &'a [u32], at: usize) -> &'a [u32]
     requires { ⌜ SlotIn (now directory) (now arena) at ⌝ }
     ensures { λ r. ⌜ now r ≡ partOf (now (directory .entry)) (now (arena .entry)) at ⌝ }
 {
@@ -84,7 +82,7 @@ fn slot_part<'a>(directory: &'a [u32], arena: &'a [u32], at: usize) -> &'a [u32]
 // The same, in the arena of a half.
 pub fn half_part<'a>(
     half: Half,
-    directory: &'a [u32],
+    directory: &[u32],
     originals: &'a [u32],
     replicas: &'a [u32],
     at: usize,

@@ -5,7 +5,6 @@ use native.Mathlib.Numerals.{add-one}
 use Rattle.view.specs.Directory.{everySecond}
 use Rattle.view.proofs.Places.{sum-below}
 use native.Mathlib.Omega.{arith}
-use borrow.Author.Needs.{needs}
 use Rattle.view.proofs.counts.every_second.Statement.{statement}
 use Rattle.view.proofs.counts.every_second.Tie as tie
 

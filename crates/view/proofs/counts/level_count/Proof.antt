@@ -4,7 +4,6 @@ use borrow.Author.Tests.{le-leb}
 use Rattle.layout.specs.Stored.{partitionsAt}
 use Rattle.view.specs.Directory.{countOf}
 use Rattle.view.proofs.Places.{level-rising}
-use native.Mathlib.Omega.{arith}
 use borrow.Author.Needs.{needs}
 use Rattle.view.proofs.counts.level_count.Statement.{statement}
 use Rattle.view.proofs.counts.level_count.Tie as tie

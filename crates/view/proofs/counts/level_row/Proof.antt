@@ -1,7 +1,6 @@
 -- Zeros above m; else the four counts.
 use borrow.Author.Tests.{lt-leb}
 use Rattle.view.specs.Directory.{countOf, rowOf}
-use native.Mathlib.Omega.{arith}
 use borrow.Author.Needs.{needs}
 use Rattle.view.proofs.counts.level_row.Statement.{statement}
 use Rattle.view.proofs.counts.level_row.Tie as tie

@@ -8,7 +8,6 @@ use Rattle.lists.proofs.Upto.{upTo-none, upTo-more}
 use Rattle.ruler.specs.Ruler.{deepest}
 use Rattle.view.specs.Directory.{rowOf, rowsOf}
 use native.Mathlib.Omega.{arith}
-use borrow.Author.Needs.{needs}
 use Rattle.view.proofs.counts.level_rows.Statement.{statement}
 use Rattle.view.proofs.counts.level_rows.Tie as tie
 

@@ -1,6 +1,5 @@
 -- Each subdivision has its line of `halfOf`.
 use Rattle.layout.specs.Answers.{halfOf}
-use native.Mathlib.Omega.{arith}
 use borrow.Author.Needs.{needs}
 use Rattle.view.proofs.slots.half_of.Statement.{statement}
 use Rattle.view.proofs.slots.half_of.Tie as tie

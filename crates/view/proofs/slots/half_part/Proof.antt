@@ -1,4 +1,4 @@
-use native.Mathlib.Omega.{arith}
+-- Each half has its line of `arenaOf`.
 use borrow.Author.Needs.{needs}
 use Rattle.view.proofs.slots.half_part.Statement.{statement}
 use Rattle.view.proofs.slots.half_part.Tie as tie

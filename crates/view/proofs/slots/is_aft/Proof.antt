@@ -1,6 +1,5 @@
 -- Each subdivision has its line of `isAft`.
 use Rattle.layout.specs.Answers.{isAft}
-use native.Mathlib.Omega.{arith}
 use borrow.Author.Needs.{needs}
 use Rattle.view.proofs.slots.is_aft.Statement.{statement}
 use Rattle.view.proofs.slots.is_aft.Tie as tie
