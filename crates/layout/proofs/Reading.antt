@@ -72,7 +72,8 @@ module _ (s : Scale) (h : Half) (ts : List Trip) where
 
   -- the entries of slot k are the part of the arena between the entries before it and those before the next
   pub slot-part : (n k : ℕ) → k < 2 * partitions (s .m)
-      → take (entryWords * length (entriesBefore s h ts (k + 1)) - entryWords * length (entriesBefore s h ts k)) (drop (entryWords * length (entriesBefore s h ts k)) (arena s h ts n))
+      → take (entryWords * length (entriesBefore s h ts (k + 1)) - entryWords * length (entriesBefore s h ts k))
+      (drop (entryWords * length (entriesBefore s h ts k)) (arena s h ts n))
       ≡ words (slot s h ts k)
   unfolding arena padded entries entriesBefore joined
   slot-part n k l =

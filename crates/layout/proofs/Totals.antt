@@ -61,7 +61,8 @@ module _ (s : Scale) (h : Half) (ts : List Trip) where
   partitions-passed L (suc n) deep l =
       let k = slotNumber L n false in
       let even : length (slot s h ts k) ≡ length (slotTrips s (subdivisionOf h false) L n ts) = ap length (slot-numbered s h ts L n deep (omega arith) false) in
-      let odd : length (slot s h ts (k + 1)) ≡ length (slotTrips s (subdivisionOf h true) L n ts) = ap length (ap (slot s h ts) (sym (aft-next L n)) ∙ slot-numbered s h ts L n deep (omega arith) true) in
+      let odd : length (slot s h ts (k + 1)) ≡ length (slotTrips s (subdivisionOf h true) L n ts) =
+      ap length (ap (slot s h ts) (sym (aft-next L n)) ∙ slot-numbered s h ts L n deep (omega arith) true) in
       let next : slotNumber L (suc n) false ≡ k + 1 + 1 = omega (arith, slots-apart L (suc n) false, slots-apart L n false) in
       rw (next, before-more s h ts (k + 1), before-more s h ts k, even, odd, partitions-passed L n deep (omega arith), length-append, length-append) (omega arith)
 
@@ -71,7 +72,9 @@ module _ (s : Scale) (h : Half) (ts : List Trip) where
   levels-passed zero l = refl
   levels-passed (suc L) l =
       let deep : L ≤ s .m = omega arith in
-      rw (← level-end L, partitions-passed L (2 ^ L) deep (omega arith), level-start L, levels-passed L (omega arith), count-runs s ts L (subdivisionOf h false) deep, count-runs s ts L (subdivisionOf h true) deep)
+      let ins = count-runs s ts L (subdivisionOf h false) deep in
+      let afts = count-runs s ts L (subdivisionOf h true) deep in
+      rw (← level-end L, partitions-passed L (2 ^ L) deep (omega arith), level-start L, levels-passed L (omega arith), ins, afts)
 
   -- the last word of a half is the total of its counts
   pub counts-total : sumTo levelEntries (suc (s .m)) ≡ length (entries s h ts)

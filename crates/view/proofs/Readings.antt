@@ -105,7 +105,9 @@ module _ (s : Scale) (x : Index) (w : Indexed s x) where
         let h = halfOf d in
         let k = slotNumber L i (isAft d) in
         let a = arenaOf h (x .originals) (x .replicas) in
-        let part : List ℕ → List ℕ = λ l. take (entryWords * length (entriesBefore s h trips (k + 1)) - entryWords * length (entriesBefore s h trips k)) (drop (entryWords * length (entriesBefore s h trips k)) l) in
+        let from = entryWords * length (entriesBefore s h trips k) in
+        let to = entryWords * length (entriesBefore s h trips (k + 1)) in
+        let part : List ℕ → List ℕ = λ l. take (to - from) (drop from l) in
         rw (slot-word, slot-next) (ap part (arena-is h) ∙ slot-part s h trips (length a) k inside ∙ ap words slot-is)
 
     pub slot-in : SlotIn dir (arenaOf (halfOf d) (x .originals) (x .replicas)) (slotAt (s .m) L i d)
@@ -123,7 +125,8 @@ module _ (s : Scale) (x : Index) (w : Indexed s x) where
   -- ---- the census
 
   -- the differences of a level's words, added up, are the entries of its runs
-  sum-read : (L : ℕ) (d : Subdivision) → L ≤ s .m → (n : ℕ) → n ≤ 2 ^ L → everySecond dir (slotAt (s .m) L 0 d) n ≡ length (joined (λ i. slotTrips s d L i trips) n)
+  sum-read : (L : ℕ) (d : Subdivision) → L ≤ s .m → (n : ℕ) → n ≤ 2 ^ L
+      → everySecond dir (slotAt (s .m) L 0 d) n ≡ length (joined (λ i. slotTrips s d L i trips) n)
   unfolding everySecond joined slotAt
   sum-read L d deep zero l = refl
   sum-read L d deep (suc n) l =

@@ -47,7 +47,9 @@ add-total-2 c =
     let a = c .before .before .before .before .args in
     let i = c .before .before .before .loop .i in
     let w = c .before .before .before .before .pre in
-    omega (arith, c .before .before .before .loop .inv .1, sum-below (a .directory .now) (a .from) (a .n) w i (omega arith), w .rises (2 * i) (omega arith), c .shared-slice-known2 .given (a .from + 2 * i + 1))
+    let sum = sum-below (a .directory .now) (a .from) (a .n) w i (omega arith) in
+    let word = c .shared-slice-known2 .given (a .from + 2 * i + 1) in
+    omega (arith, c .before .before .before .loop .inv .1, sum, w .rises (2 * i) (omega arith), word)
 
 add-i : tie.Need-add-i Inv-loop μ-loop
 add-i c = omega arith

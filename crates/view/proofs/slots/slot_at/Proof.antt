@@ -23,11 +23,21 @@ wide-requires c κs = search needs
 add-result : tie.Need-add-result
 add-result c =
     let a = c .before .before .before .before .before .args in
-    let e = slot-sum (a .m) (a .level) (a .i) (a .d) (c .before .before .before .before .half-of .ensures) (c .before .before .before .half-from .ensures) (c .before .before .is-aft .ensures) (c .before .slot-number .result) (c .before .slot-number .ensures) (c .wide .ensures) in
+    let half = c .before .before .before .before .half-of .ensures in
+    let from = c .before .before .before .half-from .ensures in
+    let side = c .before .before .is-aft .ensures in
+    let number = c .before .slot-number .ensures in
+    let e = slot-sum (a .m) (a .level) (a .i) (a .d) half from side (c .before .slot-number .result) number (c .wide .ensures) in
     omega (arith, e, slot-fits (a .m) (a .level) (a .i) (a .d) (omega arith) (omega arith), few-words (a .m) (omega arith))
 
 returns : tie.Need-returns
-returns c = let a = c .before .before .before .before .before .args in slot-sum (a .m) (a .level) (a .i) (a .d) (c .before .before .before .before .half-of .ensures) (c .before .before .before .half-from .ensures) (c .before .before .is-aft .ensures) (c .before .slot-number .result) (c .before .slot-number .ensures) (c .wide .ensures)
+returns c =
+    let a = c .before .before .before .before .before .args in
+    let half = c .before .before .before .before .half-of .ensures in
+    let from = c .before .before .before .half-from .ensures in
+    let side = c .before .before .is-aft .ensures in
+    let number = c .before .slot-number .ensures in
+    slot-sum (a .m) (a .level) (a .i) (a .d) half from side (c .before .slot-number .result) number (c .wide .ensures)
 
 pub slot-at-spec : {M : Type 1} → statement M
 slot-at-spec =
