@@ -18,4 +18,7 @@ pub mod Keys
 pub mod Counted
 pub mod Checked
 pub mod Local
+pub mod Reading
+pub mod Viewed
 pub mod ByLevel
+pub mod Totals

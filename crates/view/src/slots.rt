@@ -1,0 +1,97 @@
+// Where a slot's word stands in the directory, and the part of an arena that the slot's entries have.
+use layout::ENTRY_WORDS;
+use layout::Half;
+use layout::Subdivision;
+use ruler::power;
+use store::places::slot_number;
+ghost use mathlib.Core.Path.{_≡_};
+ghost use Prim.Native.Nat.{_+_, _-_, _*_, _^_, _<_, _≤_};
+ghost use Rattle.ruler.specs.Ruler.{deepest};
+ghost use Rattle.layout.specs.Answers.{halfOf, isAft, subdivisionNumbered};
+ghost use Rattle.view.specs.Directory.{halfFrom, slotAt, arenaOf, partOf, SlotIn};
+
+pub fn wide(word: u32) -> usize
+    ensures { λ r. ⌜ r ≡ word ⌝ }
+{
+    word as usize
+}
+
+// The subdivision with a number of 0 to 3.
+pub fn numbered(number: u32) -> Subdivision
+    ensures { λ r. ⌜ r ≡ subdivisionNumbered number ⌝ }
+{
+    match number {
+        0 => Subdivision::OIn,
+        1 => Subdivision::OAft,
+        2 => Subdivision::RIn,
+        _ => Subdivision::RAft,
+    }
+}
+
+pub fn half_of(d: Subdivision) -> Half
+    ensures { λ r. ⌜ r ≡ halfOf d ⌝ }
+{
+    match d {
+        Subdivision::OIn => Half::Originals,
+        Subdivision::OAft => Half::Originals,
+        Subdivision::RIn => Half::Replicas,
+        Subdivision::RAft => Half::Replicas,
+    }
+}
+
+fn is_aft(d: Subdivision) -> bool
+    ensures { λ r. ⌜ r ≡ isAft d ⌝ }
+{
+    match d {
+        Subdivision::OIn => false,
+        Subdivision::OAft => true,
+        Subdivision::RIn => false,
+        Subdivision::RAft => true,
+    }
+}
+
+// The words of the directory before those of a half.
+fn half_from(m: u32, half: Half) -> usize
+    requires { ⌜ m ≤ deepest ⌝ }
+    ensures { λ r. ⌜ r ≡ halfFrom m half ⌝ }
+{
+    match half {
+        Half::Originals => 0,
+        Half::Replicas => wide(2 * (power(m + 1) - 1) + 1),
+    }
+}
+
+// The place in the directory of the word of a slot.
+pub fn slot_at(m: u32, level: u32, i: u32, d: Subdivision) -> usize
+    requires { ⌜ (m ≤ deepest) × (level ≤ m) × (i < 2 ^ level) ⌝ }
+    ensures { λ r. ⌜ r ≡ slotAt m level i d ⌝ }
+{
+    half_from(m, half_of(d)) + wide(slot_number(level, i, is_aft(d)))
+}
+
+// The part of an arena that the entries of a slot have.
+fn slot_part<'a>(directory: &[u32], arena: &'a [u32], at: usize) -> &'a [u32]
+    requires { ⌜ SlotIn (now directory) (now arena) at ⌝ }
+    ensures { λ r. ⌜ now r ≡ partOf (now (directory .entry)) (now (arena .entry)) at ⌝ }
+{
+    let from = ENTRY_WORDS * wide(directory[at]);
+    let to = ENTRY_WORDS * wide(directory[at + 1]);
+    &arena[from..to]
+}
+
+// The same, in the arena of a half.
+pub fn half_part<'a>(
+    half: Half,
+    directory: &[u32],
+    originals: &'a [u32],
+    replicas: &'a [u32],
+    at: usize,
+) -> &'a [u32]
+    requires { ⌜ SlotIn (now directory) (arenaOf half (now originals) (now replicas)) at ⌝ }
+    ensures { λ r. ⌜ now r ≡ partOf (now (directory .entry)) (arenaOf half (now (originals .entry)) (now (replicas .entry))) at ⌝ }
+{
+    match half {
+        Half::Originals => slot_part(directory, originals, at),
+        Half::Replicas => slot_part(directory, replicas, at),
+    }
+}
