@@ -1,0 +1,57 @@
+-- A call and its answer as numbers, in the order in which the test port writes them; and the definitions' answer to a call.
+use mathlib.Core.Bool.{Bool, cond}
+use mathlib.Core.List.{List, [], _∷_, _++_}
+use Prim.Native.Nat.{ℕ}
+use lib.ListN.{length}
+use Rattle.lists.specs.Lists.{same}
+use Rattle.ruler.specs.Ruler.{Scale, timeAt, scaleOf}
+use Rattle.layout.specs.declared.Outcome.{Outcome}
+use Rattle.layout.specs.Words.{Index}
+use Rattle.layout.specs.Refusals.{numberOf, detailOf, checkOutcome, runOutcome}
+use Rattle.layout.specs.Calls.{index, After, Asked, buildOf, addOf, removeOf, askOf, censusOf, runOf}
+
+pub data Call : Type 0 where
+  build : (w m : ℕ) → (table directory originals replicas : List ℕ) → Call
+  check : (w m : ℕ) → (directory originals replicas : List ℕ) → Call
+  add : (w m id start end : ℕ) → (directory originals replicas : List ℕ) → Call
+  remove : (w m id : ℕ) → (directory originals replicas : List ℕ) → Call
+  ask : (w m code start end : ℕ) → (directory originals replicas answers : List ℕ) → Call
+  run : (w m level partition subdivision : ℕ) → (directory originals replicas : List ℕ) → Call
+  census : (w m : ℕ) → (directory originals replicas : List ℕ) → Call
+
+pub record Case : Type 0 where
+  pub call : Call
+  pub answer : List ℕ
+
+abbrev pub case : Call → List ℕ → Case
+case c l = record { call = c; answer = l }
+
+-- a buffer: its length and its words
+unfoldable pub buffer : List ℕ → List ℕ
+buffer l = length l ∷ l
+
+unfoldable pub outcome : Outcome → List ℕ
+outcome o = numberOf o ∷ detailOf o ∷ []
+
+unfoldable pub after : After → List ℕ
+after a = outcome (a .outcome) ++ (buffer (a .words .directory) ++ (buffer (a .words .originals) ++ buffer (a .words .replicas)))
+
+unfoldable pub asked : Asked → List ℕ
+asked a = outcome (a .outcome) ++ (a .count ∷ buffer (a .answers))
+
+unfoldable pub flat : List (List ℕ) → List ℕ
+flat [] = []
+flat (l ∷ ls) = l ++ flat ls
+
+unfoldable pub ruler : (w m : ℕ) → Scale
+ruler w m = scaleOf (record { w = w; m = m })
+
+-- what the definitions answer
+unfoldable pub answerOf : Call → List ℕ
+answerOf (build w m t d o r) = after (buildOf (ruler w m) t (index d o r))
+answerOf (check w m d o r) = outcome (checkOutcome (ruler w m) (index d o r))
+answerOf (add w m i s e d o r) = after (addOf (ruler w m) (index d o r) (record { id = i; start = timeAt s; end = timeAt e }))
+answerOf (remove w m i d o r) = after (removeOf (ruler w m) (index d o r) i)
+answerOf (ask w m c s e d o r a) = asked (askOf (ruler w m) (index d o r) c (record { start = timeAt s; end = timeAt e }) a)
+answerOf (run w m L i s d o r) = outcome (runOutcome (ruler w m) (index d o r) L i s) ++ buffer (runOf (ruler w m) (index d o r) L i s)
+answerOf (census w m d o r) = outcome (checkOutcome (ruler w m) (index d o r)) ++ flat (censusOf (ruler w m) (index d o r))

@@ -1,0 +1,10 @@
+pub mod Calls
+pub mod Wrong
+pub mod Part1
+pub mod Part2
+pub mod Part3
+pub mod Part4
+pub mod Part5
+pub mod Part6
+pub mod Part7
+pub mod Part8
