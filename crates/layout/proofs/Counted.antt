@@ -16,10 +16,7 @@ use Rattle.layout.specs.declared.Half.the-variants.{Originals, Replicas}
 use Rattle.layout.specs.Stored.{holdsTrip, isOriginal, isIn, subdivisionOf, isOf, belongs}
 use Rattle.layout.specs.Words.{partitions, levelOf, placeOf, slotTrips, slot, entriesBefore, entries}
 use Rattle.layout.specs.Refusals.{partitionsHolding}
-
--- the trip belongs in the half's slot k
-abbrev pub inSlot : Scale → Half → (k : ℕ) → Trip → Bool
-inSlot s h k = belongs s (subdivisionOf h (eqb (k % 2) 1)) (levelOf (s .m) (k / 2)) (placeOf (s .m) (k / 2))
+use Rattle.layout.proofs.Walk.{inSlot}
 
 -- ---- the four slots of a partition
 

@@ -30,7 +30,8 @@ use Rattle.layout.proofs.Few.{never-eleven}
 use Rattle.layout.proofs.Rows.{words-length}
 use Rattle.layout.proofs.Tables.{Table}
 use Rattle.layout.proofs.Indexes.{Indexed, table-again, indexed}
-use Rattle.layout.proofs.Counted.{inSlot, slots-sum}
+use Rattle.layout.proofs.Counted.{slots-sum}
+use Rattle.layout.proofs.Walk.{inSlot}
 
 -- the slots of a half, and the subdivision of slot k
 abbrev pub slotsOf : Scale → ℕ

@@ -17,9 +17,10 @@ use Rattle.trip.specs.declared.Trip.{Trip}
 use Rattle.layout.specs.declared.Half.{Half}
 use Rattle.layout.specs.declared.Half.the-variants.{Originals, Replicas}
 use Rattle.layout.specs.declared.Subdivision.{Subdivision}
-use Rattle.layout.specs.declared.Subdivision.the-variants.{OIn, OAft, RIn, RAft}
+use Rattle.layout.specs.declared.Subdivision.the-variants.{RAft}
 use Rattle.layout.specs.Stored.{belongs}
-use Rattle.layout.specs.Words.{byId, byStart, byEnd, order, slotTrips, slot, entriesBefore, entries, directoryHalf, arena, Lengths, layout}
+use Rattle.layout.specs.Words.{order, slotTrips, slot, entriesBefore, entries, directoryHalf, arena, Lengths, layout}
+use Rattle.layout.proofs.Keys.{keyOf, order-keyed}
 
 -- no id twice
 abbrev pub OtherId : Trip → Trip → Type 0
@@ -65,30 +66,18 @@ keyed-apart a i b j n = go (decLt a b) (decLt b a) (decLt i j)
     go (no p) (no q) (no h) = inr (tied (omega arith) (omega (arith, n)))
 
 -- ---- the order of each subdivision, read so: R_aft's has no key
-keyOf : Subdivision → Trip → ℕ
-keyOf OIn t = t .start .0
-keyOf OAft t = t .start .0
-keyOf RIn t = t .end .0
-keyOf RAft t = 0
 
 -- x precedes y
 Precedes : Subdivision → Trip → Trip → Type 0
 Precedes d x y = Keyed (keyOf d x) (x .id) (keyOf d y) (y .id)
 
 of-order : (d : Subdivision) (x y : Trip) → T (order d x y) → Precedes d x y
-unfolding order keyOf Precedes byStart byId byEnd
-of-order OIn x y t = of-keyed (x .start .0) (x .id) (y .start .0) (y .id) t
-of-order OAft x y t = of-keyed (x .start .0) (x .id) (y .start .0) (y .id) t
-of-order RIn x y t = of-keyed (x .end .0) (x .id) (y .end .0) (y .id) t
-of-order RAft x y t = tied refl (ltb→lt (x .id) (y .id) t)
+unfolding Precedes
+of-order d x y t = of-keyed (keyOf d x) (x .id) (keyOf d y) (y .id) (rw (order-keyed d x y) at t)
 
 to-order : (d : Subdivision) (x y : Trip) → Precedes d x y → T (order d x y)
-unfolding order keyOf Precedes byStart byId byEnd
-to-order OIn x y h = to-keyed (x .start .0) (x .id) (y .start .0) (y .id) h
-to-order OAft x y h = to-keyed (x .start .0) (x .id) (y .start .0) (y .id) h
-to-order RIn x y h = to-keyed (x .end .0) (x .id) (y .end .0) (y .id) h
-to-order RAft x y (less p) = absurd (omega arith)
-to-order RAft x y (tied e q) = lt→ltb (x .id) (y .id) q
+unfolding Precedes
+to-order d x y h = rw (order-keyed d x y) (to-keyed (keyOf d x) (x .id) (keyOf d y) (y .id) h)
 
 pub order-asym : (d : Subdivision) (x y : Trip) → T (order d x y) → T (order d y x) → ⊥
 unfolding Precedes

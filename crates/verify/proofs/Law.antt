@@ -23,7 +23,7 @@ use Rattle.layout.specs.Refusals.{partitionsHolding, isIndex}
 use Rattle.layout.specs.Calls.{index}
 use Rattle.layout.proofs.RowOrder.{slot-order}
 use Rattle.layout.proofs.Indexes.{of-isIndex, to-isIndex}
-use Rattle.layout.proofs.Counted.{inSlot}
+use Rattle.layout.proofs.Walk.{inSlot}
 use Rattle.layout.proofs.Local.{slotsOf, subdivisionAt, Standing, Proper, Laid, originalsHalf, replicasHalf, all-fit, originals-are, local-index, index-local}
 use Rattle.verify.specs.Passing.{each, some}
 use Rattle.verify.specs.Local.{total, halfOk, slotAt, tripsOf, fitsTest, standsAt, slotOk, slotsOk, home, sameTrip, isKnown, idsDiffer, countsTo, halvesOk, allSlotsOk, tripsOk, locally}
