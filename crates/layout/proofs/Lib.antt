@@ -12,3 +12,5 @@ pub mod Edits
 pub mod Reported
 pub mod Edited
 pub mod Starred
+pub mod Sides
+pub mod Apart

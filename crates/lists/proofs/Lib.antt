@@ -7,3 +7,4 @@ pub mod Upto
 pub mod Same
 pub mod Padded
 pub mod Sifting
+pub mod Kept
