@@ -7,3 +7,6 @@ pub mod Walked
 pub mod Sure
 pub mod Laid
 pub mod Levels
+pub mod Suited
+pub mod Questions
+pub mod Endings

@@ -1,7 +1,7 @@
--- What the walk of a plan lists: level by level from the deepest, the entries looked at that pass a test.
+-- What the walk of a plan lists, said by the slots of a table: level by level from the deepest, the entries looked at that pass a test.
 use mathlib.Core.Path.{_≡_}
 use mathlib.Core.Bool.{Bool, true}
-use mathlib.Core.List.{List, _++_}
+use mathlib.Core.List.{List, _++_, List·Memᴰ as Mem}
 use Prim.Native.Nat.{ℕ, _+_, _-_, _*_, _/_, _%_, _<_}
 use lib.Dec.{T, eqb}
 use Rattle.lists.specs.Lists.{keep, joined}
@@ -11,7 +11,7 @@ use Rattle.layout.specs.declared.Half.{Half}
 use Rattle.layout.specs.declared.Half.the-variants.{Originals, Replicas}
 use Rattle.layout.specs.Stored.{subdivisionOf}
 use Rattle.layout.specs.Words.{slotTrips, Index}
-use Rattle.layout.specs.Refusals.{isIndex}
+use Rattle.layout.specs.Refusals.{tableOf, isIndex}
 use Rattle.ask.specs.declared.plan.Plan.{Plan}
 use Rattle.ask.specs.Plan.{Ranged, originalSlots, replicaSlots}
 
@@ -41,4 +41,4 @@ walk s t p ts n = joined (λ up. levelWalk s t p ts (s .m - up)) n
 pub record Ready (s : Scale) (t : Trip → Bool) (p : Plan) (x : Index) : Type 0 where
   pub indexed : isIndex s x ≡ true
   pub ranged : Ranged (s .m) p
-  pub sure : p .quick ≡ true → (u : Trip) → p .low .1 < s .cell (u .end) → s .cell (u .start) < p .high .1 → T (t u)
+  pub sure : p .quick ≡ true → (u : Trip) → Mem u (tableOf s x) → p .low .1 < s .cell (u .end) → s .cell (u .start) < p .high .1 → T (t u)

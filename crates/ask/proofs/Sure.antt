@@ -72,6 +72,7 @@ module _ (s : Scale) (ts : List Trip) where
 
   -- a trip in partition i of level L covers its cells, and an original starts there
   record Entry (h : Half) (L i : ℕ) (t : Trip) : Type 0 where
+    row : Mem t ts
     low : A t ≤ i * 2 ^ (s .m - L)
     high : (i + 1) * 2 ^ (s .m - L) ≤ B t + 1
     which : eqb (cellUp (s .m) L (A t)) i ≡ ofOriginals h
@@ -86,7 +87,7 @@ module _ (s : Scale) (ts : List Trip) where
       let u = of-and (holdsTrip s L j t) (isOf (subdivisionOf h (eqb (q % 2) 1)) (isOriginal s L j t) (isIn s L j t)) (v .1) in
       let z = of-isOf h (eqb (q % 2) 1) (isOriginal s L j t) (isIn s L j t) (u .1) in
       let g = of-within (s .m) L j (A t) (B t) (holds-within (s .m) L j (A t) (B t) (u .0)) in
-      (q, w .1, record { low = g .0; high = g .1; which = z .0 })
+      (q, w .1, record { row = v .0; low = g .0; high = g .1; which = z .0 })
 
   of-partition : (h : Half) (L i n : ℕ) (t : Trip) → n ≤ 2 → Mem t (slotsFrom s h ts L i n) → Entry h L i t
   of-partition h L i n t two m =
@@ -145,7 +146,7 @@ module _ (s : Scale) (ts : List Trip) where
 -- ---- so nothing is lost where no test is made
 
 module _ (s : Scale) (ts : List Trip) (t : Trip → Bool) (p : Plan) (r : Ranged (s .m) p)
-    (sure : p .quick ≡ true → (u : Trip) → p .low .1 < s .cell (u .end) → s .cell (u .start) < p .high .1 → T (t u)) (L : ℕ) where
+    (sure : p .quick ≡ true → (u : Trip) → Mem u ts → p .low .1 < s .cell (u .end) → s .cell (u .start) < p .high .1 → T (t u)) (L : ℕ) where
   abbrev a : ℕ
   a = cellUp (s .m) L (p .low .1)
 
@@ -172,21 +173,21 @@ module _ (s : Scale) (ts : List Trip) (t : Trip → Bool) (p : Plan) (r : Ranged
   first-sure h = unless-all (sureFirst p L) t _ (λ f u m.
       let e = of-partition s ts Originals L a 2 u (omega arith) m in
       let w = of-first f in
-      sure (w .0) u (ends-after s ts Originals L (p .low .1) u (w .1) e) (starts-earlier s ts L a (p .high .1) u e h))
+      sure (w .0) u (e .row) (ends-after s ts Originals L (p .low .1) u (w .1) e) (starts-earlier s ts L a (p .high .1) u e h))
 
   pub between-sure : a < b
       → keepUnless (p .quick) t (slotsFrom s Originals ts L (a + 1) (2 * (b - (a + 1)))) ≡ keep t (slotsFrom s Originals ts L (a + 1) (2 * (b - (a + 1))))
   between-sure h = unless-all (p .quick) t _ (λ f u m.
       let w = of-slots s ts Originals L (a + 1) (2 * (b - (a + 1))) u m in
       let q = w .1 in
-      sure f u (ends-later s ts L _ (p .low .1) u (w .2) (omega arith)) (starts-earlier s ts L _ (p .high .1) u (w .2) (omega arith)))
+      sure f u (w .2 .row) (ends-later s ts L _ (p .low .1) u (w .2) (omega arith)) (starts-earlier s ts L _ (p .high .1) u (w .2) (omega arith)))
 
   pub last-sure : a < b
       → keepUnless (sureLast p L) t (slotsFrom s Originals ts L b (originalSlots (p .kind))) ≡ keep t (slotsFrom s Originals ts L b (originalSlots (p .kind)))
   last-sure h = unless-all (sureLast p L) t _ (λ f u m.
       let e = of-partition s ts Originals L b _ u (few-slots (p .kind) .0) m in
       let w = of-last f in
-      sure (w .0) u (ends-later s ts L b (p .low .1) u e h) (starts-before s ts Originals L (p .high .1) u (w .1) e))
+      sure (w .0) u (e .row) (ends-later s ts L b (p .low .1) u e h) (starts-before s ts Originals L (p .high .1) u (w .1) e))
 
   -- the one partition
   pub one-sure : a ≡ b
@@ -196,11 +197,11 @@ module _ (s : Scale) (ts : List Trip) (t : Trip → Bool) (p : Plan) (r : Ranged
       let both = of-and (sureFirst p L) (sureLast p L) (to-T f) in
       let w = of-first (of-T (sureFirst p L) (both .0)) in
       let v = of-last (of-T (sureLast p L) (both .1)) in
-      sure (w .0) u (ends-after s ts Originals L (p .low .1) u (w .1) e) (starts-before s ts Originals L (p .high .1) u (v .1) (rw ab at e)))
+      sure (w .0) u (e .row) (ends-after s ts Originals L (p .low .1) u (w .1) e) (starts-before s ts Originals L (p .high .1) u (v .1) (rw ab at e)))
 
   -- the replicas of the first partition
   pub replicas-sure : keepUnless (sureFirst p L) t (slotsFrom s Replicas ts L a (replicaSlots (p .kind))) ≡ keep t (slotsFrom s Replicas ts L a (replicaSlots (p .kind)))
   replicas-sure = unless-all (sureFirst p L) t _ (λ f u m.
       let e = of-partition s ts Replicas L a _ u (few-slots (p .kind) .1) m in
       let w = of-first f in
-      sure (w .0) u (ends-after s ts Replicas L (p .low .1) u (w .1) e) (omega (arith, replica-before s ts L (p .low .1) u e, r .ordered)))
+      sure (w .0) u (e .row) (ends-after s ts Replicas L (p .low .1) u (w .1) e) (omega (arith, replica-before s ts L (p .low .1) u e, r .ordered)))

@@ -114,7 +114,7 @@ fn slot_at(cell: Cell, level: u32) -> usize
 }
 
 // Where the replicas' half of the directory begins.
-fn half_length(m: u32) -> usize
+pub fn half_length(m: u32) -> usize
     requires { ⌜ m ≤ deepest ⌝ }
     ensures { λ r. ⌜ r ≡ halfLength m ⌝ }
 {

@@ -1,5 +1,5 @@
 -- Laws of `keep`: of lists joined, of a list that passes whole, and of one more value.
-use mathlib.Core.Path.{_≡_, refl, ap, _∙_}
+use mathlib.Core.Path.{_≡_, refl, ap, ap₂, _∙_}
 use mathlib.Core.Bool.{Bool, true, false}
 use mathlib.Core.List.{List, [], _∷_, _++_, append-nil, List·Memᴰ as Mem, List·Memᴰ·head as here, List·Memᴰ·tail as there}
 use Prim.Native.Nat.{ℕ, zero, suc, _+_, _≤_}
@@ -36,6 +36,12 @@ module _ {A : Type 0} (p : A → Bool) where
       go : (b : Bool) → T b → keep p l ≡ l → consIf b x (keep p l) ≡ x ∷ l
       go true t e = ap (λ (z : List A). x ∷ z) e
       go false t e = absurd t
+
+  -- tests that agree on every member keep the same
+  pub keep-ext : (r : A → Bool) (l : List A) → ((z : A) → Mem z l → p z ≡ r z) → keep p l ≡ keep r l
+  unfolding keep
+  keep-ext r [] h = refl
+  keep-ext r (x ∷ l) h = ap₂ (λ (b : Bool) (k : List A). consIf b x k) (h x (here refl)) (keep-ext r l (λ z m. h z (there m)))
 
   -- a loop over the values f 0, f 1, .. : what is kept of the first i of them, one turn, and how long it is
   module _ (f : ℕ → A) where
