@@ -14,3 +14,7 @@ pub mod Edited
 pub mod Starred
 pub mod Sides
 pub mod Apart
+pub mod Counted
+pub mod Checked
+pub mod Local
+pub mod ByLevel

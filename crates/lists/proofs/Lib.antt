@@ -8,3 +8,5 @@ pub mod Same
 pub mod Padded
 pub mod Sifting
 pub mod Kept
+pub mod Sublists
+pub mod Sums
