@@ -23,8 +23,10 @@ use Rattle.layout.specs.declared.Refusal.the-variants.{OffRuler, Backward, NoRo
 use Rattle.layout.specs.declared.Outcome.{Outcome}
 use Rattle.layout.specs.declared.Outcome.the-variants.{Accepted, Refused}
 use Rattle.layout.specs.Answers.{answer, answerTo, over}
-use Rattle.layout.specs.Refusals.{refuse, offRuler, backward, exceeds, noSuchCode, timeTests, windowTests, roomTest}
-use Rattle.layout.specs.Calls.{ifAccepted, asked}
+use Rattle.layout.specs.Refusals.{refuse, offRuler, backward, exceeds, noSuchCode, timeTests, windowTests, roomTest, tableOf, checkOutcome, askOutcome}
+use Rattle.layout.specs.Calls.{ifAccepted, asked, askOf}
+use Rattle.layout.specs.Words.{Index}
+use Rattle.layout.proofs.Checked.{refused-for-all, passed}
 use Rattle.layout.proofs.Chains.{refuse-no, refuse-pass, refuse-taken}
 use Rattle.store.specs.Entries.{ids}
 use Rattle.ask.specs.Part.{Listed}
@@ -111,3 +113,15 @@ on-ruler s w off back =
     let b = s .has (w .end) in
     let p = of-and a b (to-T (not-false (a && b) off)) in
     record { starts = p .0; ends = p .1; ordered = ltb-false (w .end .0) (w .start .0) back }
+
+-- ---- 1, 3, 8
+
+module _ (s : Scale) (x : Index) (code : ℕ) (w : Window) (list : List ℕ) where
+  pub ends-unchecked : {why : Refusal} {d : ℕ} {o : Outcome} {n : ℕ} → checkOutcome s x ≡ Refused why d → o ≡ Refused why d → n ≡ 0
+      → asked o n list ≡ askOf s x code w list
+  unfolding askOf askOutcome answeredAs
+  ends-unchecked {why} {d} e f z = ends-refused why d (answerTo (named code) w (tableOf s x)) list (refused-for-all s x why d e _) f z
+
+  pub past-check : checkOutcome s x ≡ Accepted → answerOf s (tableOf s x) code w list ≡ askOf s x code w list
+  unfolding askOf askOutcome answerOf answeredAs
+  past-check e = ap (λ (o : Outcome). answeredAs o (answerTo (named code) w (tableOf s x)) list) (sym (passed s x e _))

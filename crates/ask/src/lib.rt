@@ -11,6 +11,8 @@ use layout::Refusal;
 use plan::Plan;
 use plan::half_length;
 use plan::plan_for;
+use ruler::Judged;
+use ruler::Numbers;
 use ruler::Ruler;
 use trip::Named;
 use trip::Question;
@@ -22,11 +24,11 @@ ghost use mathlib.Core.Path.{_≡_};
 ghost use mathlib.Core.Bool.{true};
 ghost use Prim.Native.Nat.{_≤_, _<_, _+_, _*_};
 ghost use lib.ListN.{length, getD};
-ghost use Rattle.ruler.specs.Ruler.{deepest, mostTrips, inBounds, scale};
+ghost use Rattle.ruler.specs.Ruler.{deepest, mostTrips, inBounds, scaleOf, scale};
 ghost use Rattle.layout.specs.Words.{partitions};
 ghost use Rattle.layout.specs.Answers.{answer};
 ghost use Rattle.layout.specs.Refusals.{tableOf, isIndex, roomTest};
-ghost use Rattle.layout.specs.Calls.{index, asked};
+ghost use Rattle.layout.specs.Calls.{index, asked, askOf};
 ghost use Rattle.ask.specs.Bounds.{inside};
 ghost use Rattle.ask.specs.Part.{LevelsThere, levelsMatches};
 ghost use Rattle.ask.specs.Chain.{OnRuler, listedOf, answerOf};
@@ -153,4 +155,27 @@ fn by_code(
         relationship,
     };
     listed(ruler, directory, originals, replicas, question, answers)
+}
+
+// A question on any words: the code and the window, after the tests of the ruler, the directory and the index. The ids of the matches go
+// into the answer list's first words, in ascending order.
+pub fn ask(
+    numbers: Numbers,
+    directory: &[u32],
+    originals: &[u32],
+    replicas: &[u32],
+    code: u32,
+    window: Window,
+    answers: &mut [u32],
+) -> Answered
+    ensures { λ r. ⌜ asked (r .outcome) (r .count) (now (answers .exit)) ≡ askOf (scaleOf numbers) (index (now (directory .entry)) (now (originals .entry)) (now (replicas .entry))) code window (now (answers .entry)) ⌝ }
+{
+    let checked = verify::check(numbers, directory, originals, replicas);
+    if let Outcome::Refused { refusal, detail } = checked {
+        return refused(refusal, detail);
+    }
+    let Judged::Good(ruler) = Ruler::new(numbers) else {
+        return refused(Refusal::RulerOutOfBounds, 0);
+    };
+    by_code(ruler, directory, originals, replicas, code, window, answers)
 }
