@@ -15,6 +15,8 @@ pub mod Walk
 pub mod Starred
 pub mod RowParts
 pub mod Keys
+pub mod Sides
+pub mod Apart
 pub mod Counted
 pub mod Checked
 pub mod Local

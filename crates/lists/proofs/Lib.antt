@@ -12,5 +12,6 @@ pub mod Alike
 pub mod Halving
 pub mod Stores
 pub mod Lent
+pub mod Kept
 pub mod Sublists
 pub mod Sums

@@ -1,0 +1,208 @@
+-- On an index the stretches of a level are there, and their matches are those that the walk lists; and the walk level by level.
+use mathlib.Core.Path.{_≡_, refl, sym, ap, ap₂, subst, _∙_, fun-ext}
+use mathlib.Core.Bool.{Bool, true, false, _&&_}
+use mathlib.Core.List.{List, [], _++_}
+use Prim.Native.Nat.{ℕ, _+_, _-_, _*_, _^_, _≤_, _<_}
+use native.Mathlib.Numerals.{add-one}
+use native.Mathlib.Omega.{arith}
+use lib.Dec.{T, ltb}
+use lib.ListN.{length, length-append}
+use borrow.Author.Tests.{ltb-true, ltb-false}
+use Rattle.lists.specs.Lists.{keep, joined}
+use Rattle.lists.proofs.Tests.{to-T}
+use Rattle.lists.proofs.Joined.{joined-add}
+use Rattle.ruler.specs.Ruler.{Scale, cellUp}
+use Rattle.trip.specs.declared.Trip.{Trip}
+use Rattle.layout.specs.declared.Half.{Half}
+use Rattle.layout.specs.declared.Half.the-variants.{Originals, Replicas}
+use Rattle.layout.specs.Words.{partitionNumber, halfLength, Index}
+use Rattle.layout.specs.Refusals.{tableOf}
+use Rattle.layout.proofs.Indexes.{Indexed, of-isIndex}
+use Rattle.ask.specs.declared.plan.Plan.{Plan}
+use Rattle.ask.specs.Plan.{Ranged, originalSlots, replicaSlots, firstSlot, slotAt, sureFirst, sureLast, stretch, arranged, stretchesAt}
+use Rattle.ask.specs.Part.{keepUnless, stretchMatches, There, AllThere, levelMatches, LevelsThere, levelsMatches}
+use Rattle.ask.proofs.Looked.{slotsFrom, width, lookedAt, levelWalk, walk, Ready}
+use Rattle.ask.proofs.Ranges.{few-slots, cells-ordered, high-in}
+use Rattle.ask.proofs.Sure.{three-pieces, first-sure, between-sure, last-sure, one-sure, replicas-sure}
+use Rattle.ask.proofs.Laid.{Laid, originals-laid, replicas-laid, stretch-is, stretch-there}
+
+none-kept : (sure : Bool) (t : Trip → Bool) → keepUnless sure t [] ≡ []
+unfolding keepUnless keep
+none-kept true t = refl
+none-kept false t = refl
+
+no-slots : (s : Scale) (h : Half) (ts : List Trip) (L i : ℕ) → slotsFrom s h ts L i 0 ≡ []
+unfolding slotsFrom joined
+no-slots s h ts L i = refl
+
+module _ {s : Scale} {t : Trip → Bool} {p : Plan} {x : Index} (r : Ready s t p x) (L : ℕ) (deep : L ≤ s .m) where
+  abbrev ts : List Trip
+  ts = tableOf s x
+
+  abbrev a : ℕ
+  a = cellUp (s .m) L (p .low .1)
+
+  abbrev b : ℕ
+  b = cellUp (s .m) L (p .high .1)
+
+  indexed : Indexed s x
+  indexed = of-isIndex s x (to-T (r .indexed))
+
+  originals : Laid s Originals ts (x .directory) 0 (x .originals)
+  originals = originals-laid s x indexed
+
+  replicas : Laid s Replicas ts (x .directory) (halfLength (s .m)) (x .replicas)
+  replicas = replicas-laid s x indexed
+
+  -- a stretch of n slots from partition i on: it is there, and these match
+  piece-there : (i n from to : ℕ) (sure : Bool) → 2 * i + n ≤ 2 * 2 ^ L → from ≡ firstSlot L i → to ≡ firstSlot L i + n
+      → There (x .directory) (x .originals) (stretch from to sure)
+  piece-there i n from to sure h f g = stretch-there originals L i n deep h sure (omega arith) (omega arith)
+
+  piece-is : (i n from to : ℕ) (sure : Bool) → 2 * i + n ≤ 2 * 2 ^ L → from ≡ firstSlot L i → to ≡ firstSlot L i + n
+      → stretchMatches t (x .directory) (x .originals) (stretch from to sure) ≡ keepUnless sure t (slotsFrom s Originals ts L i n)
+  unfolding stretchMatches
+  piece-is i n from to sure h f g = ap (keepUnless sure t) (stretch-is originals L i n deep h sure (omega arith) (omega arith))
+
+  -- the first slots of the two partitions, and where the replicas' half begins, as the code has them
+  module _ (P Q H : ℕ) (at-P : P ≡ firstSlot L a) (at-Q : Q ≡ firstSlot L b) (at-H : H ≡ halfLength (s .m)) where
+    abbrev n : ℕ
+    n = originalSlots (p .kind)
+
+    abbrev k : ℕ
+    k = replicaSlots (p .kind)
+
+    abbrev there : Type 0
+    there =
+        AllThere (x .directory) (x .originals) (x .replicas)
+        (arranged P Q n (p .quick) (sureFirst p L) (sureLast p L) (stretch (H + P) (H + P + k) (sureFirst p L)))
+
+    copies-there : There (x .directory) (x .replicas) (stretch (H + P) (H + P + k) (sureFirst p L))
+    copies-there =
+        let f = few-slots (p .kind) in
+        let i = high-in (r .ranged) L deep in
+        let o = cells-ordered (r .ranged) L deep in
+        stretch-there replicas L a k deep (omega arith) (sureFirst p L) (omega arith) (omega arith)
+
+    arranged-there : (c : Bool) → ltb P Q ≡ c → there
+    unfolding arranged firstSlot partitionNumber
+    arranged-there true e =
+        let h = ltb-true P Q e in
+        let f = few-slots (p .kind) in
+        let i = high-in (r .ranged) L deep in
+        rw e (record {
+          first = piece-there a 2 P (P + 2) (sureFirst p L) (omega arith) at-P (omega arith);
+          between = piece-there (a + 1) (2 * (b - (a + 1))) (P + 2) Q (p .quick) (omega arith) (omega arith) (omega arith);
+          last = piece-there b n Q (Q + n) (sureLast p L) (omega arith) at-Q (omega arith);
+          replicas = copies-there;
+        })
+    arranged-there false e =
+        let f = few-slots (p .kind) in
+        let i = high-in (r .ranged) L deep in
+        let o = cells-ordered (r .ranged) L deep in
+        let none = piece-there a 0 P P (p .quick) (omega arith) at-P (omega arith) in
+        rw e (record {
+          first = none;
+          between = none;
+          last = piece-there a n P (P + n) (sureFirst p L && sureLast p L) (omega arith) at-P (omega arith);
+          replicas = copies-there;
+        })
+
+    -- the matches of the originals' three stretches, and of the replicas'
+    copies-are : stretchMatches t (x .directory) (x .replicas) (stretch (H + P) (H + P + k) (sureFirst p L)) ≡ keep t (slotsFrom s Replicas ts L a k)
+    unfolding stretchMatches
+    copies-are =
+        let f = few-slots (p .kind) in
+        let i = high-in (r .ranged) L deep in
+        let o = cells-ordered (r .ranged) L deep in
+        ap (keepUnless (sureFirst p L) t) (stretch-is replicas L a k deep (omega arith) (sureFirst p L) (omega arith) (omega arith))
+        ∙ replicas-sure s ts t p (r .ranged) (r .sure) L
+
+    arranged-are : (c : Bool) → ltb P Q ≡ c
+        → levelMatches t (x .directory) (x .originals) (x .replicas)
+        (arranged P Q n (p .quick) (sureFirst p L) (sureLast p L) (stretch (H + P) (H + P + k) (sureFirst p L)))
+        ≡ keep t (slotsFrom s Originals ts L a (2 * (b - a) + n)) ++ keep t (slotsFrom s Replicas ts L a k)
+    unfolding arranged levelMatches firstSlot partitionNumber
+    arranged-are true e =
+        let h = ltb-true P Q e in
+        let ab : a < b = omega arith in
+        let f = few-slots (p .kind) in
+        let i = high-in (r .ranged) L deep in
+        let first = piece-is a 2 P (P + 2) (sureFirst p L) (omega arith) at-P (omega arith) ∙ first-sure s ts t p (r .ranged) (r .sure) L ab in
+        let between =
+        piece-is (a + 1) (2 * (b - (a + 1))) (P + 2) Q (p .quick) (omega arith) (omega arith) (omega arith)
+        ∙ between-sure s ts t p (r .ranged) (r .sure) L ab
+        in
+        let last = piece-is b n Q (Q + n) (sureLast p L) (omega arith) at-Q (omega arith) ∙ last-sure s ts t p (r .ranged) (r .sure) L ab in
+        rw e (ap₂ _++_ (ap₂ _++_ (ap₂ _++_ first between) last ∙ three-pieces s ts t L a b n ab) copies-are)
+    arranged-are false e =
+        let h = ltb-false P Q e in
+        let f = few-slots (p .kind) in
+        let i = high-in (r .ranged) L deep in
+        let o = cells-ordered (r .ranged) L deep in
+        let ab : a ≡ b = omega arith in
+        let size : 2 * (b - a) + n ≡ n = omega arith in
+        let none =
+        piece-is a 0 P P (p .quick) (omega arith) at-P (omega arith) ∙ ap (keepUnless (p .quick) t) (no-slots s Originals ts L a) ∙ none-kept (p .quick) t
+        in
+        let one =
+        piece-is a n P (P + n) (sureFirst p L && sureLast p L) (omega arith) at-P (omega arith)
+        ∙ one-sure s ts t p (r .ranged) (r .sure) L ab
+        in
+        rw (e, size) (ap₂ _++_ (ap₂ _++_ (ap₂ _++_ none none) one) copies-are)
+
+  low-at : slotAt (p .low) L ≡ firstSlot L a
+  low-at = rw (r .ranged .low-level)
+
+  high-at : slotAt (p .high) L ≡ firstSlot L b
+  high-at = rw (r .ranged .high-level)
+
+  pub level-there : AllThere (x .directory) (x .originals) (x .replicas) (stretchesAt p L)
+  unfolding stretchesAt
+  level-there =
+      arranged-there (slotAt (p .low) L) (slotAt (p .high) L) (halfLength (p .low .0)) low-at high-at (ap halfLength (r .ranged .low-level))
+      (ltb (slotAt (p .low) L) (slotAt (p .high) L)) refl
+
+  pub level-matches : levelMatches t (x .directory) (x .originals) (x .replicas) (stretchesAt p L) ≡ levelWalk s t p (tableOf s x) L
+  unfolding stretchesAt levelWalk lookedAt width
+  level-matches =
+      arranged-are (slotAt (p .low) L) (slotAt (p .high) L) (halfLength (p .low .0)) low-at high-at (ap halfLength (r .ranged .low-level))
+      (ltb (slotAt (p .low) L) (slotAt (p .high) L)) refl
+
+-- ---- all levels
+
+module _ {s : Scale} {t : Trip → Bool} {p : Plan} {x : Index} (r : Ready s t p x) where
+  pub levels-there : LevelsThere (x .directory) (x .originals) (x .replicas) p
+  levels-there =
+      let e = r .ranged .low-level in
+      record { ranged = subst (λ (m : ℕ). Ranged m p) (sym e) (r .ranged); there = λ L h. level-there r L (omega arith) }
+
+  pub levels-match : levelsMatches t (x .directory) (x .originals) (x .replicas) p (p .low .0 + 1) ≡ walk s t p (tableOf s x) (s .m + 1)
+  unfolding levelsMatches walk
+  levels-match =
+      let e = r .ranged .low-level in
+      let of : ℕ → List Trip = λ L. levelMatches t (x .directory) (x .originals) (x .replicas) (stretchesAt p L) in
+      ap₂ (λ (f : ℕ → List Trip) (m : ℕ). joined f (m + 1))
+      (fun-ext λ up. ap (λ (m : ℕ). of (m - up)) e ∙ level-matches r (s .m - up) (omega arith)) e
+
+-- the matches level after level, whatever the words
+module _ (t : Trip → Bool) (d o r : List ℕ) (p : Plan) where
+  pub levels-none : levelsMatches t d o r p 0 ≡ []
+  unfolding levelsMatches joined
+  levels-none = refl
+
+  pub levels-more : (up : ℕ) → levelsMatches t d o r p (up + 1) ≡ levelsMatches t d o r p up ++ levelMatches t d o r (stretchesAt p (p .low .0 - up))
+  unfolding levelsMatches joined
+  levels-more up = rw (add-one up)
+
+  -- fewer levels have no more matches
+  levels-less : (up n : ℕ) → up ≤ n → length (levelsMatches t d o r p up) ≤ length (levelsMatches t d o r p n)
+  unfolding levelsMatches
+  levels-less up n h =
+      let e : n ≡ up + (n - up) = omega arith in
+      rw (e, joined-add (λ i. levelMatches t d o r (stretchesAt p (p .low .0 - i))) up (n - up), length-append) (omega arith)
+
+  -- so the next level has room where all have
+  pub next-room : (up n : ℕ) → up < n → {room : ℕ} → length (levelsMatches t d o r p n) ≤ room
+      → length (levelsMatches t d o r p up ++ levelMatches t d o r (stretchesAt p (p .low .0 - up))) ≤ room
+  next-room up n h room = rw (← levels-more up) (omega (arith, levels-less (up + 1) n (omega arith)))

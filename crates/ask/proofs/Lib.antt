@@ -1,0 +1,12 @@
+pub mod Inside
+pub mod Ranges
+pub mod Written
+pub mod Turns
+pub mod Looked
+pub mod Walked
+pub mod Sure
+pub mod Laid
+pub mod Levels
+pub mod Suited
+pub mod Questions
+pub mod Endings

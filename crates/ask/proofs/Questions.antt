@@ -1,0 +1,156 @@
+-- A question on an index: its plan is ready to be walked, and what the walk lists, sorted, is the answer.
+use mathlib.Core.Path.{_≡_, refl, sym, ap, ap₂, _∙_}
+use mathlib.Core.Bool.{Bool, true}
+use mathlib.Core.List.{List, _++_, map, List·Memᴰ as Mem}
+use Prim.Native.Nat.{ℕ, _+_, _*_, _^_, _≤_, _<_}
+use native.Mathlib.Omega.{arith}
+use lib.Dec.{T, ltb, leb, ltb→lt}
+use lib.Pow.{pow-mono}
+use lib.ListN.{length, getD, length-map, List·getD-append}
+use Rattle.lists.specs.Lists.{keep, ascending}
+use Rattle.lists.proofs.Tests.{to-T}
+use Rattle.lists.proofs.Members.{keep-length, length-sort, pairs-keep}
+use Rattle.lists.proofs.Sorting.{ascending-same}
+use Rattle.lists.proofs.Kept.{keep-ext}
+use Rattle.ruler.specs.declared.Time.{Time}
+use Rattle.ruler.specs.declared.Numbers.{Numbers}
+use Rattle.ruler.specs.declared.Ruler.{Ruler}
+use Rattle.ruler.specs.Ruler.{Scale, mostTrips, inBounds, scaleOf, scale}
+use Rattle.ruler.proofs.Fair.{Fair, bounds, fair}
+use Rattle.trip.specs.declared.Trip.{Trip}
+use Rattle.trip.specs.declared.Window.{Window}
+use Rattle.trip.specs.declared.Question.{Question}
+use Rattle.trip.specs.Relationships.{related}
+use Rattle.layout.specs.declared.Half.the-variants.{Originals, Replicas}
+use Rattle.layout.specs.Words.{partitions, Index, lengthsOf, layout, entries}
+use Rattle.layout.specs.Answers.{matches, answer}
+use Rattle.layout.specs.Refusals.{tableOf, isIndex}
+use Rattle.layout.proofs.Partitions.{Fits}
+use Rattle.layout.proofs.Tables.{Table}
+use Rattle.layout.proofs.Indexes.{Indexed, of-isIndex, back-length}
+use Rattle.layout.proofs.Edits.{idOf, ids-differ, ids-in, matches-distinct}
+use Rattle.store.specs.Entries.{ids}
+use Rattle.ask.specs.declared.bounds.Bounds.{Bounds}
+use Rattle.ask.specs.declared.plan.Plan.{Plan}
+use Rattle.ask.specs.Bounds.{far, inside, boundsOf}
+use Rattle.ask.specs.Plan.{planFor}
+use Rattle.ask.specs.Part.{LevelsThere, levelsMatches}
+use Rattle.ask.specs.Chain.{OnRuler}
+use Rattle.ask.proofs.Inside.{inside-related}
+use Rattle.ask.proofs.Looked.{Ready, walk}
+use Rattle.ask.proofs.Walked.{Suits, walk-in, in-walk, walk-distinct}
+use Rattle.ask.proofs.Laid.{Laid, originals-laid}
+use Rattle.ask.proofs.Levels.{levels-there, levels-match}
+use Rattle.ask.proofs.Suited.{planAt, plan-for, in-range, suits-plan, quick-right}
+use Rattle.ask.proofs.Written.{ids-length}
+
+-- a time of a ruler is not far
+pub not-far : (n : Numbers) → T (inBounds n) → (t : Time) → T (scaleOf n .has t) → t .0 < far
+unfolding scaleOf
+not-far n ok t h = omega (arith, ltb→lt (t .0) (2 ^ n .w) h, pow-mono (bounds n ok .wide))
+
+module _ (ruler : Ruler) (ok : inBounds (ruler .numbers) ≡ true) (x : Index) (is : isIndex (scale ruler) x ≡ true) (q : Question)
+    (on : OnRuler (scale ruler) (q .window)) where
+  abbrev s : Scale
+  s = scale ruler
+
+  abbrev ts : List Trip
+  ts = tableOf s x
+
+  abbrev w : Window
+  w = q .window
+
+  abbrev test : Trip → Bool
+  test = inside (boundsOf (q .relationship) (q .window))
+
+  abbrev p : Plan
+  p = planFor s (q .relationship) (q .window)
+
+  falls : Fair s
+  falls = fair (ruler .numbers) (to-T ok)
+
+  table : Table s ts (lengthsOf x)
+  table = of-isIndex s x (to-T is) .table
+
+  pub window-near : (w .start .0 < far) × (w .end .0 < far)
+  window-near = (not-far (ruler .numbers) (to-T ok) (w .start) (on .starts), not-far (ruler .numbers) (to-T ok) (w .end) (on .ends))
+
+  -- on the table's trips the bounds say what the relationship does
+  agrees : (t : Trip) → Mem t ts → test t ≡ related (q .relationship) w t
+  agrees t m =
+      let f = table .rowsOk .fits t m in
+      inside-related (q .relationship) w t (not-far (ruler .numbers) (to-T ok) (t .start) (f .starts)) (not-far (ruler .numbers) (to-T ok) (t .end) (f .ends))
+
+  order : s .cell (w .start) ≤ s .cell (w .end)
+  order = falls .never-falls (w .start) (w .end) (on .ordered)
+
+  ready : Ready s test p x
+  unfolding scaleOf
+  ready = rw (plan-for s (q .relationship) w) (record {
+    indexed = is;
+    ranged = in-range s (bounds (ruler .numbers) (to-T ok) .deep) (q .relationship) (s .cell (w .start)) (s .cell (w .end)) order (falls .one-of (w .end) (on .ends));
+    sure = λ e t m low high. rw (agrees t m) (quick-right s falls (q .relationship) w e t low high);
+  })
+
+  suits : (t : Trip) → Mem t ts → T (test t) → Suits (p .kind) (p .low .1) (p .high .1) (s .cell (t .start)) (s .cell (t .end))
+  suits t m h =
+      let f = table .rowsOk .fits t m in
+      rw (plan-for s (q .relationship) w)
+      (suits-plan s falls w t (falls .one-of (t .start) (f .starts)) (falls .never-falls (t .start) (t .end) (f .ordered)) order (q .relationship)
+      (rw (agrees t m) at h))
+
+  -- ---- what the walk over the words lists
+
+  pub words-there : LevelsThere (x .directory) (x .originals) (x .replicas) p
+  words-there = levels-there ready
+
+  abbrev listing : List Trip
+  listing = levelsMatches test (x .directory) (x .originals) (x .replicas) p (p .low .0 + 1)
+
+  pub listing-answer : ascending (ids listing) ≡ answer q ts
+  unfolding answer matches
+  listing-answer =
+      let r = table .rowsOk in
+      let o = ready .ranged .ordered in
+      let d = walk-distinct s falls ts (r .fits) (r .distinct) test p o suits in
+      let k = pairs-keep test (r .distinct) in
+      let to = walk-in s falls ts (r .fits) (r .distinct) test p o suits in
+      let from = in-walk s falls ts (r .fits) (r .distinct) test p o suits in
+      ap (λ (l : List Trip). ascending (ids l)) (levels-match ready)
+      ∙ ascending-same (ids-differ d) (ids-differ k) (ids-in to) (ids-in from)
+      ∙ ap (λ (l : List Trip). ascending (ids l)) (keep-ext test (related (q .relationship) w) ts agrees)
+
+  pub listing-length : length listing ≡ length (answer q ts)
+  listing-length = sym (ids-length listing) ∙ sym (length-sort leb (ids listing)) ∙ ap length listing-answer
+
+  -- no more than the trips, which are few
+  pub listing-few : length listing ≤ length ts
+  unfolding answer matches
+  listing-few =
+      let e = listing-length in
+      let a = length-sort leb (ids (keep (related (q .relationship) w) ts)) in
+      omega (arith, ids-length (keep (related (q .relationship) w) ts), keep-length (related (q .relationship) w) ts)
+
+  pub trips-few : length ts ≤ mostTrips
+  trips-few = table .few
+
+  -- the word that says how many trips there are
+  pub trips-word : getD (x .directory) (2 * partitions (s .m)) 0 ≡ length ts
+  unfolding entries
+  trips-word =
+      let none : 0 + 2 * partitions (s .m) ≡ 2 * partitions (s .m) = omega arith in
+      let word = rw none at (originals-laid s x (of-isIndex s x (to-T is)) .word (2 * partitions (s .m)) (omega arith)) in
+      word ∙ back-length s falls ts (lengthsOf x) table
+
+  pub trips-in : 2 * partitions (s .m) < length (x .directory)
+  trips-in = let i = originals-laid s x (of-isIndex s x (to-T is)) .inside in omega arith
+
+  -- the same for bounds and a plan that the code made
+  abbrev listingOf : Bounds → Plan → List Trip
+  listingOf b p′ = levelsMatches (inside b) (x .directory) (x .originals) (x .replicas) p′ (p′ .low .0 + 1)
+
+  pub same-there : {p′ : Plan} → p′ ≡ p → LevelsThere (x .directory) (x .originals) (x .replicas) p′
+  same-there e = rw e words-there
+
+  pub same-listing : {b : Bounds} {p′ : Plan} → b ≡ boundsOf (q .relationship) (q .window) → p′ ≡ p → listingOf b p′ ≡ listing
+  same-listing e f = ap₂ listingOf e f

@@ -1,0 +1,45 @@
+-- The cells of a plan at a level, and how small the numbers of their slots are.
+use mathlib.Core.Path.{_≡_}
+use Prim.Native.Nat.{ℕ, _+_, _^_, _≤_, _<_}
+use native.Mathlib.Nat.{two-pow-succ}
+use native.Mathlib.Numerals.{add-one}
+use native.Mathlib.Omega.{arith}
+use lib.Pow.{pow-pos, pow-mono}
+use Rattle.ruler.specs.declared.Cell.{Cell}
+use Rattle.ruler.specs.Ruler.{deepest, cellUp}
+use Rattle.ruler.proofs.Levels.{up-mono, up-lt}
+use Rattle.layout.specs.Words.{partitions, partitionNumber, halfLength}
+use Rattle.ask.specs.declared.plan.Kind.{Kind}
+use Rattle.ask.specs.declared.plan.Kind.the-variants.{Starting, Ending, Crossing}
+use Rattle.ask.specs.declared.plan.Plan.{Plan}
+use Rattle.ask.specs.Plan.{Ranged, originalSlots, replicaSlots, firstSlot, slotAt}
+
+pub few-slots : (k : Kind) → (originalSlots k ≤ 2) × (replicaSlots k ≤ 2)
+few-slots Starting = (omega arith, omega arith)
+few-slots Ending = (omega arith, omega arith)
+few-slots Crossing = (omega arith, omega arith)
+
+module _ {m : ℕ} {p : Plan} (r : Ranged m p) (L : ℕ) (deep : L ≤ m) where
+  pub cells-ordered : cellUp m L (p .low .1) ≤ cellUp m L (p .high .1)
+  cells-ordered = up-mono m L (p .low .1) (p .high .1) (r .ordered)
+
+  pub high-in : cellUp m L (p .high .1) < 2 ^ L
+  high-in = up-lt m L (p .high .1) deep (r .bounded)
+
+  pub low-in : cellUp m L (p .low .1) < 2 ^ L
+  low-in = let a = cells-ordered in let b = high-in in omega arith
+
+first-slot-small : (L i : ℕ) → L ≤ deepest → i < 2 ^ L → firstSlot L i < 4096
+unfolding firstSlot partitionNumber
+first-slot-small L i h l = omega (arith, pow-mono h, pow-pos L)
+
+module _ (p : Plan) (r : Ranged (p .low .0) p) (L : ℕ) (deep : L ≤ p .low .0) where
+  pub low-slot-small : slotAt (p .low) L < 4096
+  low-slot-small = let d = r .deep in first-slot-small L _ (omega arith) (low-in r L deep)
+
+  pub high-slot-small : slotAt (p .high) L < 4096
+  high-slot-small = let d = r .deep in rw (r .high-level) (first-slot-small L _ (omega arith) (high-in r L deep))
+
+pub half-small : (m : ℕ) → m ≤ deepest → halfLength m < 4096
+unfolding halfLength partitions
+half-small m h = rw (add-one m) (omega (arith, pow-mono h, two-pow-succ m, pow-pos m))

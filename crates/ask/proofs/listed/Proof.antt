@@ -1,0 +1,152 @@
+-- The bounds and the plan are the question's; what the walk lists, sorted, is the answer.
+use mathlib.Core.Path.{_≡_, sym, ap, _∙_}
+use mathlib.Core.List.{List}
+use Prim.Native.Nat.{ℕ, _+_, _-_, _*_}
+use lib.ListN.{length, getD}
+use Rattle.lists.specs.Lists.{ascending}
+use Rattle.lists.proofs.Tests.{to-T}
+use Rattle.ruler.specs.Ruler.{scale, scaleOf}
+use Rattle.ruler.proofs.Fair.{bounds}
+use Rattle.trip.specs.declared.Trip.{Trip}
+use Rattle.layout.specs.Words.{partitions}
+use Rattle.layout.specs.Answers.{answer}
+use Rattle.layout.specs.Refusals.{tableOf, roomTest}
+use Rattle.layout.specs.Calls.{index}
+use Rattle.store.specs.Entries.{ids}
+use Rattle.ask.specs.Chain.{listedOf}
+use Rattle.ask.proofs.Written.{listed-length}
+use Rattle.ask.proofs.Questions.{window-near, listing-answer, listing-length, listing-few, trips-few, trips-word, trips-in, same-there, same-listing}
+use Rattle.ask.proofs.Endings.{of-room, ends-refused, ends-accepted, sorted-over}
+use native.Mathlib.Omega.{arith}
+use borrow.Author.Needs.{needs}
+use Rattle.ask.proofs.listed.Statement.{statement}
+use Rattle.ask.proofs.listed.Tie as tie
+
+bounds-of-requires : tie.Need-bounds-of-requires
+bounds-of-requires c κs =
+    let s = c .before .before .before .before .before in
+    let g = s .args in
+    let x = index (g .directory .now) (g .originals .now) (g .replicas .now) in
+    window-near (g .ruler) (s .pre .0) x (s .pre .1 .0) (g .question) (s .pre .1 .1)
+
+plan-for-requires : tie.Need-plan-for-requires
+plan-for-requires c κs = search needs
+
+bottom-requires : tie.Need-bottom-requires
+bottom-requires c κs = search needs
+
+trips-of-requires : tie.Need-trips-of-requires
+unfolding scaleOf
+trips-of-requires c κs =
+    let s = c .before .before .before .before .before .before .before .before in
+    let g = s .args in
+    let x = index (g .directory .now) (g .originals .now) (g .replicas .now) in
+    let deep = bounds (g .ruler .numbers) (to-T (s .pre .0)) .deep in
+    rw (c .bottom .ensures) (deep, trips-in (g .ruler) (s .pre .0) x (s .pre .1 .0) (g .question) (s .pre .1 .1))
+
+room-for-requires : tie.Need-room-for-requires
+room-for-requires c κs =
+    let s = c .before .before .before .before .before .before .before .before .before in
+    let g = s .args in
+    let x = index (g .directory .now) (g .originals .now) (g .replicas .now) in
+    let same = same-listing (g .ruler) (s .pre .0) x (s .pre .1 .0) (g .question) (s .pre .1 .1) (c .before .before .before .bounds-of .ensures) (c .before .before .plan-for .ensures) in
+    let trips = c .trips-of .ensures ∙ ap (λ (m : ℕ). getD (g .directory .now) (2 * partitions m) 0) (c .before .bottom .ensures) ∙ trips-word (g .ruler) (s .pre .0) x (s .pre .1 .0) (g .question) (s .pre .1 .1) in
+    let few = listing-few (g .ruler) (s .pre .0) x (s .pre .1 .0) (g .question) (s .pre .1 .1) in
+    let most = trips-few (g .ruler) (s .pre .0) x (s .pre .1 .0) (g .question) (s .pre .1 .1) in
+    (same-there (g .ruler) (s .pre .0) x (s .pre .1 .0) (g .question) (s .pre .1 .1) (c .before .before .plan-for .ensures), (omega (arith, ap length same), omega arith))
+
+enum-known-room : tie.Need-enum-known-room
+enum-known-room c = search needs
+
+refused-requires : tie.Need-refused-requires
+refused-requires c κs = search needs
+
+returns : tie.Need-returns
+unfolding listedOf
+returns c =
+    let s = c .before .before .before .before .before .before .before .before .before .before .before .before .before .before in
+    let g = s .args in
+    let x = index (g .directory .now) (g .originals .now) (g .replicas .now) in
+    let same = same-listing (g .ruler) (s .pre .0) x (s .pre .1 .0) (g .question) (s .pre .1 .1) (c .before .before .before .before .before .before .before .before .bounds-of .ensures) (c .before .before .before .before .before .before .before .plan-for .ensures) in
+    let told = c .before .before .room .given .1 in
+    let long = ap length same ∙ listing-length (g .ruler) (s .pre .0) x (s .pre .1 .0) (g .question) (s .pre .1 .1) in
+    let room = ap (λ (n : ℕ). roomTest n (length (g .answers .now))) (sym long) ∙ sym (c .before .before .before .before .room-for .ensures) ∙ told in
+    ends-refused _ _ _ _ room (c .refused .ensures .0) (c .refused .ensures .1)
+
+enum-told : tie.Need-enum-told
+enum-told c = search needs
+
+list-levels-requires : tie.Need-list-levels-requires
+list-levels-requires c κs =
+    let s = c .before .before .before .before .before .before .before .before .before .before .before .before .before in
+    let g = s .args in
+    let x = index (g .directory .now) (g .originals .now) (g .replicas .now) in
+    let same = same-listing (g .ruler) (s .pre .0) x (s .pre .1 .0) (g .question) (s .pre .1 .1) (c .before .before .before .before .before .before .before .bounds-of .ensures) (c .before .before .before .before .before .before .plan-for .ensures) in
+    let told = c .before .enum-told .given .1 in
+    let room = c .before .before .before .room-for .ensures in
+    (same-there (g .ruler) (s .pre .0) x (s .pre .1 .0) (g .question) (s .pre .1 .1) (c .before .before .before .before .before .before .plan-for .ensures), of-room _ _ (sym room ∙ told))
+
+sub-sort-ids : tie.Need-sub-sort-ids
+sub-sort-ids c = search needs
+
+part-sort-ids-start : tie.Need-part-sort-ids-start
+part-sort-ids-start c = search needs
+
+part-sort-ids-end : tie.Need-part-sort-ids-end
+part-sort-ids-end c =
+    let l = c .before .before .list-levels .ensures in
+    let fits = of-room _ _ (sym (c .before .before .before .before .before .before .room-for .ensures) ∙ c .before .before .before .before .enum-told .given .1) in
+    let long = listed-length l fits in
+    let n = l .counted in
+    search needs
+
+sort-ids-requires : tie.Need-sort-ids-requires
+sort-ids-requires c κs = search needs
+
+cast-t16 : tie.Need-cast-t16
+cast-t16 c =
+    let s = c .before .before .before .before .before .before .before .before .before .before .before .before .before .before .before .before .before .before .before .before in
+    let g = s .args in
+    let x = index (g .directory .now) (g .originals .now) (g .replicas .now) in
+    let same = same-listing (g .ruler) (s .pre .0) x (s .pre .1 .0) (g .question) (s .pre .1 .1) (c .before .before .before .before .before .before .before .before .before .before .before .before .before .before .bounds-of .ensures) (c .before .before .before .before .before .before .before .before .before .before .before .before .before .plan-for .ensures) in
+    let few = listing-few (g .ruler) (s .pre .0) x (s .pre .1 .0) (g .question) (s .pre .1 .1) in
+    let most = trips-few (g .ruler) (s .pre .0) x (s .pre .1 .0) (g .question) (s .pre .1 .1) in
+    omega (arith, ap length same, c .before .before .before .before .before .before .list-levels .ensures .counted)
+
+same-length : tie.Need-same-length
+same-length c = search needs
+
+returns-2 : tie.Need-returns-2
+returns-2 c =
+    let s = c .before .before .before .before .before .before .before .before .before .before .before .before .before .before .before .before .before .before .before .before in
+    let g = s .args in
+    let x = index (g .directory .now) (g .originals .now) (g .replicas .now) in
+    let same = same-listing (g .ruler) (s .pre .0) x (s .pre .1 .0) (g .question) (s .pre .1 .1) (c .before .before .before .before .before .before .before .before .before .before .before .before .before .before .bounds-of .ensures) (c .before .before .before .before .before .before .before .before .before .before .before .before .before .plan-for .ensures) in
+    let told = c .before .before .before .before .before .before .before .before .enum-told .given .1 in
+    let room = c .before .before .before .before .before .before .before .before .before .before .room-for .ensures in
+    let long = ap length same ∙ listing-length (g .ruler) (s .pre .0) x (s .pre .1 .0) (g .question) (s .pre .1 .1) in
+    let l = c .before .before .before .before .before .before .list-levels .ensures in
+    let over = sorted-over _ {k = c .before .before .before .before .before .before .list-levels .result - 0} l (omega arith) (ap (λ (ts : List Trip). ascending (ids ts)) same ∙ listing-answer (g .ruler) (s .pre .0) x (s .pre .1 .0) (g .question) (s .pre .1 .1)) (c .before .before .sort-ids .ensures) in
+    ends-accepted _ _ (ap (λ (n : ℕ). roomTest n (length (g .answers .now))) (sym long) ∙ sym room ∙ told) (l .counted ∙ long) over
+
+pub listed-spec : {M : Type 1} → statement M
+listed-spec =
+    tie.close
+    (tie.spec
+    bounds-of-requires
+    plan-for-requires
+    bottom-requires
+    trips-of-requires
+    room-for-requires
+    enum-known-room
+    refused-requires
+    returns
+    enum-told
+    list-levels-requires
+    sub-sort-ids
+    part-sort-ids-start
+    part-sort-ids-end
+    sort-ids-requires
+    cast-t16
+    same-length
+    returns-2)

@@ -1,0 +1,75 @@
+-- The definition, part by part; every slot number is small.
+use Rattle.ask.specs.Plan.{stretchesAt}
+use Rattle.ask.proofs.Ranges.{few-slots, low-slot-small, high-slot-small, half-small}
+use native.Mathlib.Omega.{arith}
+use borrow.Author.Needs.{needs}
+use Rattle.ask.proofs.plan.stretches_at.Statement.{statement}
+use Rattle.ask.proofs.plan.stretches_at.Tie as tie
+
+slot-at-requires : tie.Need-slot-at-requires
+slot-at-requires c κs = search needs
+
+slot-at-requires-2 : tie.Need-slot-at-requires-2
+slot-at-requires-2 c κs = search needs
+
+sure-first-requires : tie.Need-sure-first-requires
+sure-first-requires c κs = search needs
+
+sure-last-requires : tie.Need-sure-last-requires
+sure-last-requires c κs = search needs
+
+level-requires : tie.Need-level-requires
+level-requires c κs = search needs
+
+half-length-requires : tie.Need-half-length-requires
+half-length-requires c κs = search needs
+
+add-from : tie.Need-add-from
+add-from c =
+    let s = c .before .before .before .before .before .before .before .before in
+    let a = low-slot-small (s .args .plan) (s .pre .0) (s .args .level) (s .pre .1) in
+    let h = half-small (c .before .level .result) (omega (arith, s .pre .0 .deep)) in
+    omega (arith, c .before .before .before .before .before .slot-at .ensures, c .half-length .ensures)
+
+replica-slots-requires : tie.Need-replica-slots-requires
+replica-slots-requires c κs = search needs
+
+add-t14 : tie.Need-add-t14
+add-t14 c =
+    let s = c .before .before .before .before .before .before .before .before .before in
+    let a = low-slot-small (s .args .plan) (s .pre .0) (s .args .level) (s .pre .1) in
+    let h = half-small (c .before .before .level .result) (omega (arith, s .pre .0 .deep)) in
+    let k = few-slots (s .args .plan .kind) in
+    omega (arith, c .before .before .before .before .before .before .slot-at .ensures, c .before .half-length .ensures, c .replica-slots .ensures)
+
+original-slots-requires : tie.Need-original-slots-requires
+original-slots-requires c κs = search needs
+
+arranged-requires : tie.Need-arranged-requires
+arranged-requires c κs =
+    let s = c .before .before .before .before .before .before .before .before .before .before in
+    let x = low-slot-small (s .args .plan) (s .pre .0) (s .args .level) (s .pre .1) in
+    let y = high-slot-small (s .args .plan) (s .pre .0) (s .args .level) (s .pre .1) in
+    let k = few-slots (s .args .plan .kind) in
+    (omega (arith, c .before .before .before .before .before .before .before .slot-at .ensures), omega (arith, c .before .before .before .before .before .before .slot-at2 .ensures), omega (arith, c .original-slots .ensures))
+
+returns : tie.Need-returns
+unfolding stretchesAt
+returns c = cc
+
+pub stretches-at-spec : {M : Type 1} → statement M
+stretches-at-spec =
+    tie.close
+    (tie.spec
+    slot-at-requires
+    slot-at-requires-2
+    sure-first-requires
+    sure-last-requires
+    level-requires
+    half-length-requires
+    add-from
+    replica-slots-requires
+    add-t14
+    original-slots-requires
+    arranged-requires
+    returns)

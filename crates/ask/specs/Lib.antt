@@ -1,0 +1,4 @@
+pub mod Bounds
+pub mod Plan
+pub mod Part
+pub mod Chain

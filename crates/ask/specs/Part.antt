@@ -1,0 +1,64 @@
+-- The entries between two words of a directory, which of them match, and their ids written to the front of a list.
+use mathlib.Core.Path.{_≡_}
+use mathlib.Core.Bool.{Bool, cond}
+use mathlib.Core.List.{List, _++_}
+use Prim.Native.Nat.{ℕ, _+_, _-_, _*_, _≤_, _<_}
+use lib.ListN.{length, getD, take, drop}
+use Rattle.lists.specs.Lists.{keep, joined}
+use Rattle.trip.specs.declared.Trip.{Trip}
+use Rattle.layout.specs.Words.{entryWords, rows}
+use Rattle.layout.specs.Answers.{over}
+use Rattle.store.specs.Entries.{ids}
+use Rattle.ask.specs.declared.plan.Plan.{Plan}
+use Rattle.ask.specs.declared.plan.Stretch.{Stretch}
+use Rattle.ask.specs.declared.plan.Stretches.{Stretches}
+use Rattle.ask.specs.Plan.{Ranged, stretchesAt}
+
+-- those of a list that pass the test; the whole list, untested, where it is known that all pass
+unfoldable pub keepUnless : (sure : Bool) → (Trip → Bool) → List Trip → List Trip
+keepUnless sure t l = cond sure l (keep t l)
+
+-- the ids of these trips stand in the first words of a list, its later words stay, and r is their number
+pub record Listed (ts : List Trip) (old new : List ℕ) (r : ℕ) : Type 0 where
+  pub counted : r ≡ length ts
+  pub written : new ≡ over (ids ts) old
+
+-- the same from the word n on: those before it stay too, and r is the word after the ids
+pub record ListedFrom (n : ℕ) (ts : List Trip) (old new : List ℕ) (r : ℕ) : Type 0 where
+  pub counted : r ≡ n + length ts
+  pub written : new ≡ take n old ++ over (ids ts) (drop n old)
+
+-- the words of the entries of a stretch, and those of its trips that match
+unfoldable pub stretchWords : (directory arena : List ℕ) → Stretch → List ℕ
+stretchWords d a s =
+    let from = entryWords * getD d (s .from) 0 in
+    take (entryWords * getD d (s .to) 0 - from) (drop from a)
+
+unfoldable pub stretchMatches : (Trip → Bool) → (directory arena : List ℕ) → Stretch → List Trip
+stretchMatches t d a s = keepUnless (s .sure) t (rows (stretchWords d a s))
+
+-- a stretch whose words are there
+pub record There (directory arena : List ℕ) (s : Stretch) : Type 0 where
+  pub from-in : s .from < length directory
+  pub to-in : s .to < length directory
+  pub rises : getD directory (s .from) 0 ≤ getD directory (s .to) 0
+  pub room : entryWords * getD directory (s .to) 0 ≤ length arena
+
+-- the stretches of a level, in a directory d: three of the originals o and one of the replicas r
+pub record AllThere (d o r : List ℕ) (s : Stretches) : Type 0 where
+  pub first : There d o (s .first)
+  pub between : There d o (s .between)
+  pub last : There d o (s .last)
+  pub replicas : There d r (s .replicas)
+
+unfoldable pub levelMatches : (Trip → Bool) → (directory originals replicas : List ℕ) → Stretches → List Trip
+levelMatches t d o r s =
+    ((stretchMatches t d o (s .first) ++ stretchMatches t d o (s .between)) ++ stretchMatches t d o (s .last)) ++ stretchMatches t d r (s .replicas)
+
+-- all levels of a plan are there; and the matches of n of them, from the deepest up
+pub record LevelsThere (d o r : List ℕ) (p : Plan) : Type 0 where
+  pub ranged : Ranged (p .low .0) p
+  pub there : (L : ℕ) → L ≤ p .low .0 → AllThere d o r (stretchesAt p L)
+
+unfoldable pub levelsMatches : (Trip → Bool) → (directory originals replicas : List ℕ) → Plan → (n : ℕ) → List Trip
+levelsMatches t d o r p n = joined (λ up. levelMatches t d o r (stretchesAt p (p .low .0 - up))) n

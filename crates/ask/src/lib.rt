@@ -1,0 +1,181 @@
+// Questions on the words of an index: the ids of the trips to which a window stands in a named relationship.
+pub mod bounds;
+pub mod part;
+pub mod plan;
+pub mod walk;
+
+use bounds::Bounds;
+use bounds::bounds_of;
+use layout::Outcome;
+use layout::Refusal;
+use plan::Plan;
+use plan::half_length;
+use plan::plan_for;
+use ruler::Judged;
+use ruler::Numbers;
+use ruler::Ruler;
+use trip::Named;
+use trip::Question;
+use trip::Window;
+use trip::relationship_of;
+use walk::count_levels;
+use walk::list_levels;
+ghost use mathlib.Core.Path.{_≡_};
+ghost use mathlib.Core.Bool.{true};
+ghost use Prim.Native.Nat.{_≤_, _<_, _+_, _*_};
+ghost use lib.ListN.{length, getD};
+ghost use Rattle.ruler.specs.Ruler.{deepest, mostTrips, inBounds, scaleOf, scale};
+ghost use Rattle.layout.specs.Words.{partitions};
+ghost use Rattle.layout.specs.Answers.{answer};
+ghost use Rattle.layout.specs.Refusals.{tableOf, isIndex, roomTest};
+ghost use Rattle.layout.specs.Calls.{index, asked, askOf};
+ghost use Rattle.ask.specs.Bounds.{inside};
+ghost use Rattle.ask.specs.Part.{LevelsThere, levelsMatches};
+ghost use Rattle.ask.specs.Chain.{OnRuler, listedOf, answerOf};
+
+// What a question answers: the outcome, and how many ids it listed.
+pub struct Answered {
+    pub outcome: Outcome,
+    pub count: u32,
+}
+
+// The number of an index's trips: the last word of the originals' half.
+fn trips_of(m: u32, directory: &[u32]) -> usize
+    requires { ⌜ (m ≤ deepest) × (2 * partitions m < length (now directory)) ⌝ }
+    ensures { λ r. ⌜ r ≡ getD (now (directory .entry)) (2 * partitions m) 0 ⌝ }
+{
+    let last = half_length(m) - 1;
+    directory[last] as usize
+}
+
+// Whether the matches have room in an answer list. They are counted only where the index has more trips than the list has words.
+fn room_for(
+    bounds: Bounds,
+    plan: Plan,
+    directory: &[u32],
+    originals: &[u32],
+    replicas: &[u32],
+    trips: usize,
+    room: usize,
+) -> Outcome
+    requires { ⌜ LevelsThere (now directory) (now originals) (now replicas) plan ⌝ }
+    requires { ⌜ (length (levelsMatches (inside bounds) (now directory) (now originals) (now replicas) plan (plan .low .0 + 1)) ≤ trips) × (trips ≤ mostTrips) ⌝ }
+    ensures { λ r. ⌜ r ≡ roomTest (length (levelsMatches (inside bounds) (now (directory .entry)) (now (originals .entry)) (now (replicas .entry)) plan (plan .low .0 + 1))) room ⌝ }
+{
+    if trips <= room {
+        return Outcome::Accepted;
+    }
+    let count = count_levels(bounds, plan, directory, originals, replicas);
+    if room < count {
+        return Outcome::Refused {
+            refusal: Refusal::NoRoom,
+            detail: count as u32,
+        };
+    }
+    Outcome::Accepted
+}
+
+// The answer to a question whose window is on the ruler.
+fn listed(
+    ruler: Ruler,
+    directory: &[u32],
+    originals: &[u32],
+    replicas: &[u32],
+    question: Question,
+    answers: &mut [u32],
+) -> Answered
+    requires { ⌜ inBounds (ruler .numbers) ≡ true ⌝ }
+    requires { ⌜ isIndex (scale ruler) (index (now directory) (now originals) (now replicas)) ≡ true ⌝ }
+    requires { ⌜ OnRuler (scale ruler) (question .window) ⌝ }
+    ensures { λ r. ⌜ asked (r .outcome) (r .count) (now (answers .exit)) ≡ listedOf (answer question (tableOf (scale ruler) (index (now (directory .entry)) (now (originals .entry)) (now (replicas .entry))))) (now (answers .entry)) ⌝ }
+{
+    let window = question.window;
+    let relationship = question.relationship;
+    let bounds = bounds_of(relationship, window);
+    let plan = plan_for(ruler, relationship, window);
+    let trips = trips_of(ruler.bottom(), directory);
+    let room = room_for(
+        bounds,
+        plan,
+        directory,
+        originals,
+        replicas,
+        trips,
+        answers.len(),
+    );
+    if let Outcome::Refused { refusal, detail } = room {
+        return refused(refusal, detail);
+    }
+    let count = list_levels(bounds, plan, directory, originals, replicas, answers);
+    lists::sort_ids(&mut answers[0..count]);
+    Answered {
+        outcome: Outcome::Accepted,
+        count: count as u32,
+    }
+}
+
+// "any count that a refused call gives is 0"
+fn refused(refusal: Refusal, detail: u32) -> Answered
+    ensures { λ r. ⌜ (r .outcome ≡ Outcome.Refused refusal detail) × (r .count ≡ 0) ⌝ }
+{
+    Answered {
+        outcome: Outcome::Refused { refusal, detail },
+        count: 0,
+    }
+}
+
+// The answer to a question on an index, in the paper's words: a code and a window.
+fn by_code(
+    ruler: Ruler,
+    directory: &[u32],
+    originals: &[u32],
+    replicas: &[u32],
+    code: u32,
+    window: Window,
+    answers: &mut [u32],
+) -> Answered
+    requires { ⌜ inBounds (ruler .numbers) ≡ true ⌝ }
+    requires { ⌜ isIndex (scale ruler) (index (now directory) (now originals) (now replicas)) ≡ true ⌝ }
+    ensures { λ r. ⌜ asked (r .outcome) (r .count) (now (answers .exit)) ≡ answerOf (scale ruler) (tableOf (scale ruler) (index (now (directory .entry)) (now (originals .entry)) (now (replicas .entry)))) code window (now (answers .entry)) ⌝ }
+{
+    let Named::As(relationship) = relationship_of(code) else {
+        return refused(Refusal::NoRelationship, 0);
+    };
+    let start = window.start;
+    let end = window.end;
+    let on = ruler.has(start) & ruler.has(end);
+    if !on {
+        return refused(Refusal::OffRuler, 0);
+    }
+    if end.before(start) {
+        return refused(Refusal::Backward, 0);
+    }
+    let question = Question {
+        window,
+        relationship,
+    };
+    listed(ruler, directory, originals, replicas, question, answers)
+}
+
+// A question on any words: the code and the window, after the tests of the ruler, the directory and the index. The ids of the matches go
+// into the answer list's first words, in ascending order.
+pub fn ask(
+    numbers: Numbers,
+    directory: &[u32],
+    originals: &[u32],
+    replicas: &[u32],
+    code: u32,
+    window: Window,
+    answers: &mut [u32],
+) -> Answered
+    ensures { λ r. ⌜ asked (r .outcome) (r .count) (now (answers .exit)) ≡ askOf (scaleOf numbers) (index (now (directory .entry)) (now (originals .entry)) (now (replicas .entry))) code window (now (answers .entry)) ⌝ }
+{
+    let checked = verify::check(numbers, directory, originals, replicas);
+    if let Outcome::Refused { refusal, detail } = checked {
+        return refused(refusal, detail);
+    }
+    let Judged::Good(ruler) = Ruler::new(numbers) else {
+        return refused(Refusal::RulerOutOfBounds, 0);
+    };
+    by_code(ruler, directory, originals, replicas, code, window, answers)
+}

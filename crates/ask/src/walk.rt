@@ -1,0 +1,152 @@
+// The walk over the levels of an index, which counts the matches of a plan or lists their ids.
+use crate::bounds::Bounds;
+use crate::part::count_part;
+use crate::part::list_part;
+use crate::plan::Plan;
+use crate::plan::Stretch;
+use crate::plan::Stretches;
+use crate::plan::stretches_at;
+use layout::ENTRY_WORDS;
+ghost use mathlib.Core.Path.{_≡_};
+ghost use mathlib.Core.List.{List};
+ghost use Prim.Native.Nat.{_≤_, _+_};
+ghost use lib.ListN.{length};
+ghost use Rattle.ruler.specs.Ruler.{mostTrips};
+ghost use Rattle.ask.specs.Bounds.{inside};
+ghost use Rattle.ask.specs.Part.{Listed, ListedFrom, There, AllThere, LevelsThere, stretchMatches, levelMatches, levelsMatches};
+
+// How many entries of a stretch match.
+fn count_stretch(bounds: Bounds, stretch: Stretch, directory: &[u32], arena: &[u32]) -> usize
+    requires { ⌜ There (now directory) (now arena) stretch ⌝ }
+    ensures { λ r. ⌜ r ≡ length (stretchMatches (inside bounds) (now (directory .entry)) (now (arena .entry)) stretch) ⌝ }
+{
+    let from = stretch.from;
+    let to = stretch.to;
+    let a = directory[from] as usize;
+    let b = directory[to] as usize;
+    count_part(
+        stretch.sure,
+        bounds,
+        &arena[ENTRY_WORDS * a..ENTRY_WORDS * b],
+    )
+}
+
+// Writes their ids into the rest of a list, from its word n on, and says where the rest now begins.
+fn list_stretch(
+    bounds: Bounds,
+    stretch: Stretch,
+    directory: &[u32],
+    arena: &[u32],
+    out: &mut [u32],
+    n: usize,
+) -> usize
+    requires { ⌜ There (now directory) (now arena) stretch ⌝ }
+    requires { ⌜ n + length (stretchMatches (inside bounds) (now directory) (now arena) stretch) ≤ length (now out) ⌝ }
+    ensures { λ r. ⌜ ListedFrom n (stretchMatches (inside bounds) (now (directory .entry)) (now (arena .entry)) stretch) (now (out .entry)) (now (out .exit)) r ⌝ }
+{
+    let from = stretch.from;
+    let to = stretch.to;
+    let a = directory[from] as usize;
+    let b = directory[to] as usize;
+    n
+        + list_part(
+            stretch.sure,
+            bounds,
+            &arena[ENTRY_WORDS * a..ENTRY_WORDS * b],
+            &mut out[n..],
+        )
+}
+
+// How many entries of a level match.
+fn count_level(
+    bounds: Bounds,
+    level: Stretches,
+    directory: &[u32],
+    originals: &[u32],
+    replicas: &[u32],
+) -> usize
+    requires { ⌜ AllThere (now directory) (now originals) (now replicas) level ⌝ }
+    requires { ⌜ length (levelMatches (inside bounds) (now directory) (now originals) (now replicas) level) ≤ mostTrips ⌝ }
+    ensures { λ r. ⌜ r ≡ length (levelMatches (inside bounds) (now (directory .entry)) (now (originals .entry)) (now (replicas .entry)) level) ⌝ }
+{
+    let a = count_stretch(bounds, level.first, directory, originals);
+    let b = count_stretch(bounds, level.between, directory, originals);
+    let c = count_stretch(bounds, level.last, directory, originals);
+    let d = count_stretch(bounds, level.replicas, directory, replicas);
+    a + b + c + d
+}
+
+// Writes their ids to the front of a list.
+fn list_level(
+    bounds: Bounds,
+    level: Stretches,
+    directory: &[u32],
+    originals: &[u32],
+    replicas: &[u32],
+    out: &mut [u32],
+) -> usize
+    requires { ⌜ AllThere (now directory) (now originals) (now replicas) level ⌝ }
+    requires { ⌜ length (levelMatches (inside bounds) (now directory) (now originals) (now replicas) level) ≤ length (now out) ⌝ }
+    ensures { λ r. ⌜ Listed (levelMatches (inside bounds) (now (directory .entry)) (now (originals .entry)) (now (replicas .entry)) level) (now (out .entry)) (now (out .exit)) r ⌝ }
+{
+    let a = list_stretch(bounds, level.first, directory, originals, out, 0);
+    let b = list_stretch(bounds, level.between, directory, originals, out, a);
+    let c = list_stretch(bounds, level.last, directory, originals, out, b);
+    list_stretch(bounds, level.replicas, directory, replicas, out, c)
+}
+
+// How many entries that the plan looks at match.
+pub fn count_levels(
+    bounds: Bounds,
+    plan: Plan,
+    directory: &[u32],
+    originals: &[u32],
+    replicas: &[u32],
+) -> usize
+    requires { ⌜ LevelsThere (now directory) (now originals) (now replicas) plan ⌝ }
+    requires { ⌜ length (levelsMatches (inside bounds) (now directory) (now originals) (now replicas) plan (plan .low .0 + 1)) ≤ mostTrips ⌝ }
+    ensures { λ r. ⌜ r ≡ length (levelsMatches (inside bounds) (now (directory .entry)) (now (originals .entry)) (now (replicas .entry)) plan (plan .low .0 + 1)) ⌝ }
+{
+    let low = plan.low;
+    let m = low.level();
+    let mut count: usize = 0;
+    let mut up: u32 = 0;
+    while up <= m {
+        let level = stretches_at(plan, m - up);
+        count += count_level(bounds, level, directory, originals, replicas);
+        up += 1;
+    }
+    count
+}
+
+// Writes their ids to the front of the answer list, from the deepest level up: each level into the rest that is not used yet.
+pub fn list_levels(
+    bounds: Bounds,
+    plan: Plan,
+    directory: &[u32],
+    originals: &[u32],
+    replicas: &[u32],
+    answers: &mut [u32],
+) -> usize
+    requires { ⌜ LevelsThere (now directory) (now originals) (now replicas) plan ⌝ }
+    requires { ⌜ length (levelsMatches (inside bounds) (now directory) (now originals) (now replicas) plan (plan .low .0 + 1)) ≤ length (now answers) ⌝ }
+    ensures { λ r. ⌜ Listed (levelsMatches (inside bounds) (now (directory .entry)) (now (originals .entry)) (now (replicas .entry)) plan (plan .low .0 + 1)) (now (answers .entry)) (now (answers .exit)) r ⌝ }
+{
+    let low = plan.low;
+    let m = low.level();
+    let mut count: usize = 0;
+    let mut up: u32 = 0;
+    while up <= m {
+        let level = stretches_at(plan, m - up);
+        count += list_level(
+            bounds,
+            level,
+            directory,
+            originals,
+            replicas,
+            &mut answers[count..],
+        );
+        up += 1;
+    }
+    count
+}
