@@ -228,10 +228,10 @@ pub fn stretches_at(plan: Plan, level: u32) -> Stretches
     let q = slot_at(high, level);
     let first = sure_first(plan, level);
     let last = sure_last(plan, level);
-    let from = half_length(low.level()) + p;
+    let half = half_length(low.level());
     let replicas = Stretch {
-        from,
-        to: from + replica_slots(kind),
+        from: half + p,
+        to: half + p + replica_slots(kind),
         sure: first,
     };
     arranged(

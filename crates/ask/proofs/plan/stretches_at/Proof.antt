@@ -24,23 +24,35 @@ level-requires c κs = search needs
 half-length-requires : tie.Need-half-length-requires
 half-length-requires c κs = search needs
 
-add-from : tie.Need-add-from
-add-from c =
+add-arranged : tie.Need-add-arranged
+add-arranged c =
     let s = c .before .before .before .before .before .before .before .before in
-    let a = low-slot-small (s .args .plan) (s .pre .0) (s .args .level) (s .pre .1) in
+    let p = low-slot-small (s .args .plan) (s .pre .0) (s .args .level) (s .pre .1) in
+    let q = high-slot-small (s .args .plan) (s .pre .0) (s .args .level) (s .pre .1) in
     let h = half-small (c .before .level .result) (omega (arith, s .pre .0 .deep)) in
-    omega (arith, c .before .before .before .before .before .slot-at .ensures, c .half-length .ensures)
+    let k = few-slots (s .args .plan .kind) in
+    omega (arith, c .before .before .before .before .before .slot-at .ensures, c .before .before .before .before .slot-at2 .ensures, c .half-length .ensures)
+
+add-t14 : tie.Need-add-t14
+add-t14 c =
+    let s = c .before .before .before .before .before .before .before .before in
+    let p = low-slot-small (s .args .plan) (s .pre .0) (s .args .level) (s .pre .1) in
+    let q = high-slot-small (s .args .plan) (s .pre .0) (s .args .level) (s .pre .1) in
+    let h = half-small (c .before .level .result) (omega (arith, s .pre .0 .deep)) in
+    let k = few-slots (s .args .plan .kind) in
+    omega (arith, c .before .before .before .before .before .slot-at .ensures, c .before .before .before .before .slot-at2 .ensures, c .half-length .ensures)
 
 replica-slots-requires : tie.Need-replica-slots-requires
 replica-slots-requires c κs = search needs
 
-add-t14 : tie.Need-add-t14
-add-t14 c =
+add-t16 : tie.Need-add-t16
+add-t16 c =
     let s = c .before .before .before .before .before .before .before .before .before in
-    let a = low-slot-small (s .args .plan) (s .pre .0) (s .args .level) (s .pre .1) in
+    let p = low-slot-small (s .args .plan) (s .pre .0) (s .args .level) (s .pre .1) in
+    let q = high-slot-small (s .args .plan) (s .pre .0) (s .args .level) (s .pre .1) in
     let h = half-small (c .before .before .level .result) (omega (arith, s .pre .0 .deep)) in
     let k = few-slots (s .args .plan .kind) in
-    omega (arith, c .before .before .before .before .before .before .slot-at .ensures, c .before .half-length .ensures, c .replica-slots .ensures)
+    omega (arith, c .before .before .before .before .before .before .slot-at .ensures, c .before .before .before .before .before .slot-at2 .ensures, c .before .half-length .ensures, c .replica-slots .ensures)
 
 original-slots-requires : tie.Need-original-slots-requires
 original-slots-requires c κs = search needs
@@ -48,14 +60,14 @@ original-slots-requires c κs = search needs
 arranged-requires : tie.Need-arranged-requires
 arranged-requires c κs =
     let s = c .before .before .before .before .before .before .before .before .before .before in
-    let x = low-slot-small (s .args .plan) (s .pre .0) (s .args .level) (s .pre .1) in
-    let y = high-slot-small (s .args .plan) (s .pre .0) (s .args .level) (s .pre .1) in
+    let p = low-slot-small (s .args .plan) (s .pre .0) (s .args .level) (s .pre .1) in
+    let q = high-slot-small (s .args .plan) (s .pre .0) (s .args .level) (s .pre .1) in
     let k = few-slots (s .args .plan .kind) in
     (omega (arith, c .before .before .before .before .before .before .before .slot-at .ensures), omega (arith, c .before .before .before .before .before .before .slot-at2 .ensures), omega (arith, c .original-slots .ensures))
 
 returns : tie.Need-returns
 unfolding stretchesAt
-returns c = cc
+returns c = rw (c .arranged .ensures, c .before .original-slots .ensures, c .before .before .replica-slots .ensures, c .before .before .before .half-length .ensures, c .before .before .before .before .level .ensures, c .before .before .before .before .before .sure-last .ensures, c .before .before .before .before .before .before .sure-first .ensures, c .before .before .before .before .before .before .before .slot-at2 .ensures, c .before .before .before .before .before .before .before .before .slot-at .ensures)
 
 pub stretches-at-spec : {M : Type 1} → statement M
 stretches-at-spec =
@@ -67,9 +79,10 @@ stretches-at-spec =
     sure-last-requires
     level-requires
     half-length-requires
-    add-from
-    replica-slots-requires
+    add-arranged
     add-t14
+    replica-slots-requires
+    add-t16
     original-slots-requires
     arranged-requires
     returns)
