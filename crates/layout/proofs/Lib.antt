@@ -13,3 +13,5 @@ pub mod Reported
 pub mod Edited
 pub mod Walk
 pub mod Starred
+pub mod RowParts
+pub mod Keys

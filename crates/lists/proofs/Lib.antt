@@ -7,3 +7,6 @@ pub mod Upto
 pub mod Same
 pub mod Padded
 pub mod Sifting
+pub mod Replaced
+pub mod Alike
+pub mod Halving

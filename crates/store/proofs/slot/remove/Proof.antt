@@ -1,0 +1,85 @@
+-- What the words of a half with the entry say makes each step safe; the gap closed and the counts make the slot without it.
+use mathlib.Core.Path.{refl}
+use Rattle.layout.specs.Words.{entryWords}
+use Rattle.store.proofs.Slots.{ThereWords, there-words, there-removed}
+use native.Mathlib.Omega.{arith}
+use borrow.Author.Needs.{needs}
+use Rattle.store.proofs.slot.remove.Statement.{statement}
+use Rattle.store.proofs.slot.remove.Tie as tie
+
+-- what the requires says of the words
+in-words : (s : tie.Start) → ThereWords (s .args .dir .now) (s .args .arena .now) (s .args .slot) (s .args .pos)
+in-words s = there-words (s .args .dir .now) (s .args .arena .now) (s .pre .0) (s .args .slot) (s .args .pos) (s .pre .1)
+
+sub-last : tie.Need-sub-last
+unfolding entryWords
+sub-last c = omega (arith, in-words (c .before .before))
+
+mul-used : tie.Need-mul-used
+mul-used c = search needs
+
+slice-read-used : tie.Need-slice-read-used
+unfolding entryWords
+slice-read-used c = omega (arith, in-words (c .before .before .before))
+
+cast-used : tie.Need-cast-used
+unfolding entryWords
+cast-used c = omega (arith, in-words (c .before .before .before))
+
+mul-at : tie.Need-mul-at
+unfolding entryWords
+mul-at c = omega (arith, in-words (c .before .before .before))
+
+slice-read-at : tie.Need-slice-read-at
+unfolding entryWords
+slice-read-at c = omega (arith, in-words (c .before .before .before .before))
+
+cast-at : tie.Need-cast-at
+unfolding entryWords
+cast-at c = omega (arith, in-words (c .before .before .before .before))
+
+add-at : tie.Need-add-at
+unfolding entryWords
+add-at c = omega (arith, in-words (c .before .before .before .before))
+
+close-gap-requires : tie.Need-close-gap-requires
+unfolding entryWords
+close-gap-requires c κs = omega (arith, in-words (c .before .before .before .before .before))
+
+add-one-less-from : tie.Need-add-one-less-from
+unfolding entryWords
+add-one-less-from c = omega (arith, in-words (c .before .before .before .before .before .before .before .before .before))
+
+one-less-from-requires : tie.Need-one-less-from-requires
+one-less-from-requires c κs = in-words (c .before .before .before .before .before .before .before .before .before) .more
+
+same-length : tie.Need-same-length
+same-length c = search needs
+
+same-length-2 : tie.Need-same-length-2
+same-length-2 c = search needs
+
+returns : tie.Need-returns
+returns c = λ ls r.
+    let a = c .before .before .before .before .before .before .before .before .before .before .before .before .args in
+    rw (c .before .before .one-less-from .ensures, c .before .before .before .before .before .before .close-gap .ensures)
+    (there-removed (a .dir .now) (a .arena .now) ls (a .slot) (a .pos) _ _ r refl refl)
+
+pub remove-spec : {M : Type 1} → statement M
+remove-spec =
+    tie.close
+    (tie.spec
+    sub-last
+    mul-used
+    slice-read-used
+    cast-used
+    mul-at
+    slice-read-at
+    cast-at
+    add-at
+    close-gap-requires
+    add-one-less-from
+    one-less-from-requires
+    same-length
+    same-length-2
+    returns)
