@@ -18,3 +18,8 @@ pub mod Keys
 pub mod Counted
 pub mod Checked
 pub mod Local
+pub mod ByLevel
+pub mod LevelWalk
+pub mod RulerCells
+pub mod Lent
+pub mod Links

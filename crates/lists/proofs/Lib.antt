@@ -12,3 +12,5 @@ pub mod Alike
 pub mod Halving
 pub mod Sublists
 pub mod Sums
+pub mod Backward
+pub mod Bounded

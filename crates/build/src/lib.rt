@@ -1,0 +1,3 @@
+// The index of a table.
+mod halves;
+mod rows;
