@@ -5,3 +5,4 @@ pub mod Turns
 pub mod Ordering
 pub mod Whole
 pub mod Judging
+pub mod Outcomes
