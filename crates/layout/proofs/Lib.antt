@@ -24,3 +24,7 @@ pub mod Reading
 pub mod Viewed
 pub mod ByLevel
 pub mod Totals
+pub mod LevelWalk
+pub mod RulerCells
+pub mod Lent
+pub mod Links

@@ -15,3 +15,5 @@ pub mod Lent
 pub mod Kept
 pub mod Sublists
 pub mod Sums
+pub mod Backward
+pub mod Bounded

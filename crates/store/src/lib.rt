@@ -1,8 +1,10 @@
 // The layer between words and trips: a directory half and its arena as a list of slots, each a list of trips.
+pub mod counting;
 pub mod directory;
 pub mod entry;
 pub mod filling;
 pub mod gap;
+pub mod ids;
 pub mod ordering;
 pub mod places;
 pub mod search;

@@ -1,0 +1,151 @@
+-- The chain of a build's refusals, link by link, and what a build leaves.
+use mathlib.Core.Path.{_≡_, refl, sym, ap, ap₂, _∙_}
+use mathlib.Core.Bool.{Bool, true, false, not, true≢false}
+use mathlib.Core.List.{List, [], _∷_, _++_, append-nil}
+use Prim.Native.Nat.{ℕ, _+_, _-_, _*_, _/_, _%_, _≤_}
+use native.Mathlib.Omega.{arith}
+use lib.Dec.{T, ltb, eqb}
+use lib.ListN.{length, take, drop, length-append, length-drop, drop-of-length-le}
+use lib.Seq.{take-at, length-take-le}
+use borrow.Rule.Slice.PartMut.{putMid}
+use borrow.Author.Tests.{eq-eqb, ne-eqb}
+use Rattle.ruler.specs.declared.Ruler.{Ruler}
+use Rattle.ruler.specs.Ruler.{Scale, mostTrips, inBounds, scaleOf, scale}
+use Rattle.layout.specs.declared.Half.the-variants.{Originals, Replicas}
+use Rattle.layout.specs.declared.Refusal.the-variants.{RulerOutOfBounds, TableSize, DirectoryLength, NoRoom}
+use Rattle.layout.specs.declared.Outcome.{Outcome}
+use Rattle.layout.specs.declared.Outcome.the-variants.{Accepted, Refused}
+use Rattle.layout.specs.Words.{entryWords, rows, directoryLength, halfLength, directoryHalf, arena, Index, lengthsOf, layout}
+use Rattle.layout.specs.Refusals.{isAccepted, refuse, outOfBounds, badSize, badDirectory, noRoom, firstBadRow, buildOutcome}
+use Rattle.layout.specs.Calls.{ifAccepted, index, after, leaving, buildOf}
+use Rattle.layout.proofs.Rows.{length-rows}
+use Rattle.layout.proofs.Chains.{of-badSize}
+use Rattle.layout.proofs.Tables.{Table, of-firstBadRow, of-build}
+use Rattle.layout.proofs.Indexes.{halves-length}
+use Rattle.layout.proofs.Links.{andThen, then-refused, is-accepted, rows-then}
+use Rattle.build.specs.Laid.{Tested, Fillable}
+use Rattle.build.specs.Judged.{lengths}
+
+-- ---- the chain
+
+module _ (r : Ruler) (table : List ℕ) (directory originals replicas : ℕ) (good : inBounds (r .numbers) ≡ true) where
+  abbrev says : Outcome
+  says = buildOutcome (scale r) table (lengths directory originals replicas)
+
+  in-bounds : outOfBounds (scale r) ≡ false
+  unfolding outOfBounds scaleOf
+  in-bounds = rw good
+
+  pub says-2 : badSize table ≡ true → Refused TableSize 0 ≡ says
+  unfolding buildOutcome refuse
+  says-2 e = rw (in-bounds, e)
+
+  module _ (whole : badSize table ≡ false) where
+    pub few-rows : length table / entryWords ≤ mostTrips
+    few-rows = of-badSize table (rw whole tt) .few-rows
+
+    pub says-3 : (directory ≡ directoryLength (scale r .m) → ⊥) → Refused DirectoryLength 0 ≡ says
+    unfolding buildOutcome badDirectory refuse
+    says-3 e = rw (in-bounds, whole, ne-eqb directory (directoryLength (scale r .m)) e)
+
+    module _ (long : directory ≡ directoryLength (scale r .m)) (o : Outcome) (of-rows : o ≡ firstBadRow (scale r) 0 [] (rows table) Accepted) where
+      -- what is left of the chain
+      rows-first : says ≡ firstBadRow (scale r) 0 [] (rows table) (refuse (noRoom (scale r) (rows table) (lengths directory originals replicas)) NoRoom 0 Accepted)
+      unfolding buildOutcome badDirectory refuse
+      rows-first = rw (in-bounds, whole, eq-eqb directory (directoryLength (scale r .m)) long)
+
+      rows-decide : says ≡ andThen o (refuse (noRoom (scale r) (rows table) (lengths directory originals replicas)) NoRoom 0 Accepted)
+      rows-decide =
+          let rest = refuse (noRoom (scale r) (rows table) (lengths directory originals replicas)) NoRoom 0 Accepted in
+          rows-first ∙ rows-then (scale r) 0 [] (rows table) rest ∙ ap (λ (x : Outcome). andThen x rest) (sym of-rows)
+
+      pub says-bad : isAccepted o ≡ false → o ≡ says
+      says-bad e = sym (rows-decide ∙ then-refused o _ e)
+
+      module _ (fine : isAccepted o ≡ true) where
+        pub tested : Tested r table
+        tested = record {
+          good = good;
+          few = rw length-rows few-rows;
+          rowsOk = of-firstBadRow (scale r) 0 [] (rows table) Accepted (sym of-rows ∙ is-accepted o fine) .0;
+        }
+
+        -- the length of the directory has no part in the test of the room
+        room-last : says ≡ refuse (noRoom (scale r) (rows table) (lengths 0 originals replicas)) NoRoom 0 Accepted
+        unfolding noRoom ifAccepted
+        room-last = rows-decide ∙ ap (λ (x : Outcome). andThen x (refuse (noRoom (scale r) (rows table) (lengths directory originals replicas)) NoRoom 0 Accepted)) (is-accepted o fine)
+
+        pub says-7 : noRoom (scale r) (rows table) (lengths 0 originals replicas) ≡ true → Refused NoRoom 0 ≡ says
+        unfolding refuse
+        says-7 e = sym (room-last ∙ rw e)
+
+        pub says-0 : noRoom (scale r) (rows table) (lengths 0 originals replicas) ≡ false → Accepted ≡ says
+        unfolding refuse
+        says-0 e = sym (room-last ∙ rw e)
+
+-- numbers out of bounds
+pub says-1 : (s : Scale) (table d o r : List ℕ) → s .good ≡ false → after (Refused RulerOutOfBounds 0) (index d o r) ≡ buildOf s table (index d o r)
+unfolding buildOf leaving ifAccepted buildOutcome outOfBounds refuse
+says-1 s table d o r e = rw e
+
+-- ---- what is left
+
+if-refused : {A : Type 0} (o : Outcome) (x y : A) → isAccepted o ≡ false → ifAccepted o x y ≡ y
+unfolding ifAccepted isAccepted
+if-refused Accepted x y e = absurd (true≢false e)
+if-refused (Refused why d) x y e = refl
+
+module _ (s : Scale) (table d o r : List ℕ) (a : Outcome) (says : a ≡ buildOutcome s table (lengths (length d) (length o) (length r))) where
+  pub left-old : isAccepted a ≡ false → after a (index d o r) ≡ buildOf s table (index d o r)
+  unfolding buildOf leaving lengthsOf
+  left-old e =
+      let made = layout s (rows table) (lengths (length d) (length o) (length r)) in
+      sym (ap (λ (x : Outcome). after x (ifAccepted x made (index d o r))) (sym says) ∙ ap (after a) (if-refused a made (index d o r) e))
+
+  module _ (fine : isAccepted a ≡ true) where
+    pub accepted-table : Table s (rows table) (lengths (length d) (length o) (length r))
+    accepted-table = of-build s table (lengths (length d) (length o) (length r)) (sym says ∙ is-accepted a fine) .0
+
+    pub left-new : (d′ o′ r′ : List ℕ) → d′ ≡ directoryHalf s Originals (rows table) ++ directoryHalf s Replicas (rows table)
+        → o′ ≡ arena s Originals (rows table) (length o) → r′ ≡ arena s Replicas (rows table) (length r) → after a (index d′ o′ r′) ≡ buildOf s table (index d o r)
+    unfolding buildOf leaving lengthsOf layout ifAccepted
+    left-new d′ o′ r′ p q t =
+        let made = layout s (rows table) (lengths (length d) (length o) (length r)) in
+        let new : index d′ o′ r′ ≡ made = λ i. record { directory = p i; originals = q i; replicas = t i } in
+        let yields : a ≡ Accepted = is-accepted a fine in
+        ap₂ after yields new ∙ ap (λ (x : Outcome). after x (ifAccepted x made (index d o r))) (sym yields ∙ says)
+
+-- ---- what each half is filled with
+
+module _ (r : Ruler) (table d o p : List ℕ) (good : inBounds (r .numbers) ≡ true) (w : Table (scale r) (rows table) (lengths (length d) (length o) (length p))) where
+  tested-table : Tested r table
+  tested-table = record { good = good; few = w .few; rowsOk = w .rowsOk }
+
+  pub half-is : length d / 2 ≡ halfLength (scale r .m)
+  half-is = omega (arith, w .directory, halves-length (scale r .m))
+
+  pub twice : length d ≡ length d / 2 + length d / 2
+  twice = omega (arith, w .directory, halves-length (scale r .m))
+
+  pub first-half : (long : ℕ) → long ≡ length d / 2 → Fillable r table Originals long (length o)
+  first-half long e = record { tested = tested-table; whole = e ∙ half-is; fits = w .room .for-originals }
+
+  pub second-half : (long : ℕ) → long ≡ length d / 2 → Fillable r table Replicas long (length p)
+  second-half long e = record { tested = tested-table; whole = e ∙ half-is; fits = w .room .for-replicas }
+
+-- ---- the two halves of the directory, lent one after the other
+
+module _ (d e₁ e₂ : List ℕ) (h : ℕ) (both : length d ≡ h + h) (first : length e₁ ≡ h) where
+  length-back : length (e₁ ++ drop (h - 0) d) ≡ length d
+  length-back = length-append e₁ (drop (h - 0) d) ∙ omega (arith, length-drop (h - 0) d)
+
+  pub both-back : putMid h (length (e₁ ++ drop (h - 0) d) - h) (e₁ ++ drop (h - 0) d) e₂ ≡ e₁ ++ e₂
+  both-back =
+      let D = e₁ ++ drop (h - 0) d in
+      let none-left : drop (length D - h) (drop h D) ≡ [] = drop-of-length-le (drop h D) {i = length D - h} (omega (arith, length-drop h D)) in
+      ap₂ (λ (x y : List ℕ). x ++ (e₂ ++ y)) (take-at e₁ (drop (h - 0) d) h first) none-left ∙ ap (λ (x : List ℕ). e₁ ++ x) (append-nil e₂)
+
+  pub length-second : length (take (length (e₁ ++ drop (h - 0) d) - h) (drop h (e₁ ++ drop (h - 0) d))) ≡ h
+  length-second =
+      let D = e₁ ++ drop (h - 0) d in
+      length-take-le (length D - h) (drop h D) (omega (arith, length-drop h D)) ∙ omega (arith, length-back)

@@ -1,0 +1,88 @@
+-- The rows passed their tests, so those left decide.
+use mathlib.Core.Path.{_≡_, refl, sym, ap, _∙_}
+use mathlib.Core.List.{[]}
+use Prim.Native.Nat.{ℕ, _+_, _-_, _/_, _≤_}
+use lib.ListN.{length, drop}
+use borrow.Author.Tests.{not-true, not-false}
+use Rattle.ruler.specs.Ruler.{scale}
+use Rattle.layout.specs.declared.Outcome.{Outcome}
+use Rattle.layout.specs.declared.Outcome.the-variants.{Accepted}
+use Rattle.layout.specs.Words.{entryWords, rows}
+use Rattle.layout.specs.Refusals.{isAccepted, firstBadRow}
+use Rattle.layout.proofs.Links.{andThen, then-refused, then-accepted}
+use Rattle.build.specs.Judged.{rowsBack}
+use Rattle.build.proofs.Judging.{rows-turn, rows-end}
+use native.Mathlib.Omega.{arith}
+use borrow.Author.Needs.{needs}
+use Rattle.build.proofs.rows.first_bad_row.Statement.{statement}
+use Rattle.build.proofs.rows.first_bad_row.Tie as tie
+
+abbrev Inv-loop : tie.InvT-loop
+Inv-loop ruler table differ n i₀ i =
+    (i ≤ length table / entryWords)
+    × (firstBadRow (scale ruler) i (rowsBack table i) (drop i (rows table)) Accepted ≡ firstBadRow (scale ruler) 0 [] (rows table) Accepted)
+
+abbrev μ-loop : tie.MeasureT-loop
+μ-loop ruler table differ n i₀ i = n - i
+
+loop-holds : tie.Need-loop-holds Inv-loop μ-loop
+loop-holds c = (omega arith, refl)
+
+row-outcome-requires : tie.Need-row-outcome-requires Inv-loop μ-loop
+unfolding entryWords
+row-outcome-requires c κs =
+    let g = c .before .before .before in
+    (g .pre .0, ((omega arith, g .pre .1 .0), g .pre .1 .1))
+
+is-refused-requires : tie.Need-is-refused-requires Inv-loop μ-loop
+is-refused-requires c κs = omega arith
+
+returns : tie.Need-returns Inv-loop μ-loop
+unfolding entryWords
+returns c =
+    let g = c .before .before .before .before .before .before in
+    let k = c .before .before .before .before .loop in
+    let s = scale (g .args .ruler) in
+    let found = c .before .before .row-outcome .result in
+    let bad = not-true _ (sym (c .before .is-refused .ensures) ∙ c .if1 .taken) in
+    let rest = firstBadRow s (k .i + 1) (rowsBack (g .args .table .now) (k .i + 1)) (drop (k .i + 1) (rows (g .args .table .now))) Accepted in
+    sym (then-refused found rest bad) ∙ ap (λ (o : Outcome). andThen o rest) (c .before .before .row-outcome .ensures) ∙ sym (rows-turn s (g .args .table .now) (k .i) (omega arith)) ∙ k .inv .1
+
+add-i : tie.Need-add-i Inv-loop μ-loop
+add-i c = omega arith
+
+loop-less : tie.Need-loop-less Inv-loop μ-loop
+loop-less c = omega arith
+
+loop-again : tie.Need-loop-again Inv-loop μ-loop
+unfolding entryWords
+loop-again c =
+    let g = c .before .before .before .before .before .before in
+    let k = c .before .before .before .before .loop in
+    let s = scale (g .args .ruler) in
+    let found = c .before .before .row-outcome .result in
+    let fine = not-false _ (sym (c .before .is-refused .ensures) ∙ c .if1 .left) in
+    let rest = firstBadRow s (k .i + 1) (rowsBack (g .args .table .now) (k .i + 1)) (drop (k .i + 1) (rows (g .args .table .now))) Accepted in
+    (omega arith, sym (then-accepted found rest fine) ∙ ap (λ (o : Outcome). andThen o rest) (c .before .before .row-outcome .ensures) ∙ sym (rows-turn s (g .args .table .now) (k .i) (omega arith)) ∙ k .inv .1)
+
+returns-2 : tie.Need-returns-2 Inv-loop μ-loop
+unfolding entryWords
+returns-2 c =
+    let g = c .before .before .before in
+    let k = c .before .loop in
+    sym (rows-end (scale (g .args .ruler)) (g .args .table .now) (k .i) (omega arith)) ∙ k .inv .1
+
+pub first-bad-row-spec : {M : Type 1} → statement M
+first-bad-row-spec =
+    tie.close
+    (tie.spec
+    Inv-loop
+    μ-loop
+    loop-holds
+    row-outcome-requires
+    is-refused-requires
+    returns
+    add-i
+    loop-less
+    loop-again
+    returns-2)

@@ -1,0 +1,41 @@
+-- The originals are the rows, and the replicas the other entries.
+use mathlib.Core.Path.{_≡_, refl, sym, _∙_}
+use Prim.Native.Nat.{ℕ, _*_, _/_}
+use Rattle.ruler.specs.Ruler.{scale}
+use Rattle.layout.specs.Words.{entryWords}
+use Rattle.layout.specs.Refusals.{mostPartitions, partitionsHolding}
+use Rattle.layout.proofs.Rows.{length-rows}
+use Rattle.lists.proofs.Bounded.{sum-most}
+use Rattle.build.proofs.Judging.{rows-within, room-tested}
+use native.Mathlib.Omega.{arith}
+use borrow.Author.Needs.{needs}
+use Rattle.build.proofs.rows.lacks_room.Statement.{statement}
+use Rattle.build.proofs.rows.lacks_room.Tie as tie
+
+all-entries-requires : tie.Need-all-entries-requires
+all-entries-requires c κs = search needs
+
+mul-result : tie.Need-mul-result
+mul-result c = search needs
+
+sub-result : tie.Need-sub-result
+unfolding entryWords
+sub-result c =
+    let g = c .before .before in
+    rows-within (g .args .ruler) (g .args .table .now) (g .pre) _ _ refl (c .all-entries .ensures)
+
+mul-result-2 : tie.Need-mul-result-2
+unfolding entryWords
+mul-result-2 c =
+    let g = c .before .before in
+    omega (arith, c .all-entries .ensures, sum-most (partitionsHolding (scale (g .args .ruler))) mostPartitions _ (g .pre .rowsOk .few), g .pre .few)
+
+returns : tie.Need-returns
+unfolding entryWords
+returns c =
+    let g = c .before .before in
+    room-tested (g .args .ruler) (g .args .table .now) (g .pre) _ _ refl (c .all-entries .ensures) (g .args .originals) (g .args .replicas)
+
+pub lacks-room-spec : {M : Type 1} → statement M
+lacks-room-spec =
+    tie.close (tie.spec all-entries-requires mul-result sub-result mul-result-2 returns)

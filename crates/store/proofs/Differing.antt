@@ -1,0 +1,148 @@
+-- No id twice: the ids of distinct trips climb in ascending order, and only these.
+use mathlib.Core.Path.{_≡_, refl, sym, ap, _∙_}
+use mathlib.Core.Bool.{Bool, true, false, cond}
+use mathlib.Core.List.{List, [], _∷_, _++_, List·Memᴰ as Mem, List·Memᴰ·head as here, List·Memᴰ·tail as there, List·Memᴰ·not-nil as not-nil}
+use Prim.Native.Nat.{ℕ, _+_, _-_, _/_, _≤_, _<_}
+use native.Mathlib.Numerals.{add-one}
+use native.Mathlib.Omega.{arith}
+use lib.Dec.{T, leb, ltb, ltb→lt}
+use lib.ListN.{length, getD, take, drop, drop-of-length-le}
+use lib.Seq.{drop-cons, take-at}
+use borrow.Author.Tests.{lt-ltb, le-ltb}
+use Rattle.lists.specs.Lists.{insert, sort, ascending}
+use Rattle.lists.proofs.Tests.{of-and, to-and}
+use Rattle.lists.proofs.Members.{none, more, to-insert, to-sort, length-sort}
+use Rattle.lists.proofs.Sorting.{Sorted, Differ, below, differ-apart, ascending-below, sorted-sort}
+use Rattle.lists.proofs.Upto.{length-upTo}
+use Rattle.trip.specs.declared.Trip.{Trip}
+use Rattle.layout.specs.Answers.{over}
+use Rattle.layout.specs.Words.{entryWords, rows}
+use Rattle.layout.proofs.RowOrder.{Distinct}
+use Rattle.store.specs.Entries.{ids}
+use Rattle.store.proofs.Entries.{ids-rows}
+use Rattle.store.specs.Ids.{climbsFrom, climbs, idsDiffer}
+
+-- ---- words that climb are in strict order
+
+climbs-above : (x : ℕ) (l : List ℕ) → T (climbsFrom x l) → (z : ℕ) → Mem z l → T (ltb x z)
+unfolding climbsFrom
+climbs-above x [] t z m = absurd (not-nil m)
+climbs-above x (y ∷ l) t z (here e) = rw e (of-and (ltb x y) (climbsFrom y l) t .0)
+climbs-above x (y ∷ l) t z (there m) = let w = of-and (ltb x y) (climbsFrom y l) t in below .trans x y z (w .0) (climbs-above y l (w .1) z m)
+
+from-sorted : (x : ℕ) (l : List ℕ) → T (climbsFrom x l) → Sorted ltb (x ∷ l)
+unfolding climbsFrom
+from-sorted x [] t = more (λ y m. absurd (not-nil m)) none
+from-sorted x (y ∷ l) t = more (climbs-above x (y ∷ l) t) (from-sorted y l (of-and (ltb x y) (climbsFrom y l) t .1))
+
+climbs-sorted : (l : List ℕ) → T (climbs l) → Sorted ltb l
+unfolding climbs
+climbs-sorted [] t = none
+climbs-sorted (x ∷ l) t = from-sorted x l t
+
+sorted-from : {x : ℕ} {l : List ℕ} → Sorted ltb (x ∷ l) → T (climbsFrom x l)
+unfolding climbsFrom
+sorted-from {l = []} s = tt
+sorted-from {x} {l = y ∷ l} (more a s) = to-and (ltb x y) (climbsFrom y l) (a y (here refl)) (sorted-from s)
+
+sorted-climbs : {l : List ℕ} → Sorted ltb l → T (climbs l)
+unfolding climbs
+sorted-climbs {l = []} s = tt
+sorted-climbs {l = x ∷ l} s = sorted-from s
+
+-- ---- the loop over the words
+
+module _ (xs : List ℕ) (i : ℕ) where
+  left : i < length xs → drop i xs ≡ getD xs i 0 ∷ drop (i + 1) xs
+  left h = drop-cons xs i 0 h ∙ rw add-one
+
+  pub ids-more : (n : ℕ) → i < length xs → n < getD xs i 0 → climbsFrom (getD xs i 0) (drop (i + 1) xs) ≡ climbsFrom n (drop i xs)
+  unfolding climbsFrom
+  ids-more n h e = rw (left h, lt-ltb n (getD xs i 0) e)
+
+  pub ids-stop : (n : ℕ) → i < length xs → getD xs i 0 ≤ n → climbsFrom n (drop i xs) ≡ false
+  unfolding climbsFrom
+  ids-stop n h e = rw (left h, le-ltb n (getD xs i 0) e)
+
+  pub ids-end : (n : ℕ) → length xs ≤ i → climbsFrom n (drop i xs) ≡ true
+  unfolding climbsFrom
+  ids-end n h = rw (drop-of-length-le xs h)
+
+pub ids-none : (xs : List ℕ) → length xs ≡ 0 → climbs xs ≡ true
+unfolding climbs
+ids-none [] h = refl
+ids-none (x ∷ xs) h = absurd (omega arith)
+
+pub ids-first : (xs : List ℕ) → 0 < length xs → climbsFrom (getD xs 0 0) (drop 1 xs) ≡ climbs xs
+unfolding climbs
+ids-first [] h = absurd (omega arith)
+ids-first (x ∷ xs) h = refl
+
+-- ---- ids that differ
+
+of-ids : (ts : List Trip) (i : ℕ) → Mem i (ids ts) → (t : Trip) × Mem t ts × (i ≡ t .id)
+of-ids [] i m = absurd (not-nil m)
+of-ids (t ∷ ts) i (here e) = (t, here refl, e)
+of-ids (t ∷ ts) i (there m) = let w = of-ids ts i m in (w .0, there (w .1), w .2)
+
+to-ids : (ts : List Trip) (t : Trip) → Mem t ts → Mem (t .id) (ids ts)
+to-ids (u ∷ ts) t (here e) = here (ap (λ (x : Trip). x .id) e)
+to-ids (u ∷ ts) t (there m) = there (to-ids ts t m)
+
+ids-differ : {ts : List Trip} → Distinct ts → Differ (ids ts)
+ids-differ none = none
+ids-differ (more {x = t} {l = ts} h d) = more (λ i m e. let w = of-ids ts i m in h (w .0) (w .1) (e ∙ w .2)) (ids-differ d)
+
+differ-ids : (ts : List Trip) → Differ (ids ts) → Distinct ts
+differ-ids [] d = none
+differ-ids (t ∷ ts) (more h d) = more (λ u m. h (u .id) (to-ids ts u m)) (differ-ids ts d)
+
+-- numbers that differ in ascending order differ
+insert-differ : (x : ℕ) (l : List ℕ) → Differ (insert leb x l) → ((y : ℕ) → Mem y l → x ≡ y → ⊥) × Differ l
+unfolding insert
+insert-differ x [] d = ((λ y m. absurd (not-nil m)), none)
+insert-differ x (y ∷ l) d = go (leb x y) (insert-differ x l) d
+  where
+    go : (b : Bool) → (Differ (insert leb x l) → ((z : ℕ) → Mem z l → x ≡ z → ⊥) × Differ l)
+        → Differ (cond b (x ∷ y ∷ l) (y ∷ insert leb x l)) → ((z : ℕ) → Mem z (y ∷ l) → x ≡ z → ⊥) × Differ (y ∷ l)
+    go true ih (more h d) = (h, d)
+    go false ih (more h d) =
+        let w = ih d in (
+          (λ z m. elim m [ here e ↦ λ q. h x (to-insert leb x l x (here refl)) (sym (q ∙ e)) | there n ↦ w .0 z n ]),
+          more (λ z m. h z (to-insert leb x l z (there m))) (w .1),
+        )
+
+sort-differ : (l : List ℕ) → Differ (ascending l) → Differ l
+unfolding sort
+sort-differ [] d = none
+sort-differ (x ∷ l) d =
+    let w = insert-differ x (ascending l) d in
+    more (λ y m. w .0 y (to-sort leb l y m)) (sort-differ l (w .1))
+
+sorted-differ : {l : List ℕ} → Sorted ltb l → Differ l
+sorted-differ none = none
+sorted-differ (more {x = x} h s) = more (λ y m (e : x ≡ y). let p = ltb→lt x y (h y m) in omega arith) (sorted-differ s)
+
+pub of-idsDiffer : (ts : List Trip) → T (idsDiffer ts) → Distinct ts
+unfolding idsDiffer
+of-idsDiffer ts t = differ-ids ts (sort-differ (ids ts) (sorted-differ (climbs-sorted (ascending (ids ts)) t)))
+
+pub to-idsDiffer : (ts : List Trip) → Distinct ts → T (idsDiffer ts)
+unfolding idsDiffer
+to-idsDiffer ts d =
+    let n = ids-differ d in
+    rw (ascending-below n) (sorted-climbs (sorted-sort below (differ-apart n)))
+
+-- ---- ids copied out of a part and ordered
+
+-- the first n words of the copy, put in order, are the ids in ascending order
+pub copied : (n : ℕ) (part copy room sorted rest : List ℕ) → n ≡ length part / entryWords → copy ≡ over (ids (rows part)) room
+    → sorted ≡ ascending (take (n - 0) copy) → climbs (take (n - 0) (sorted ++ rest)) ≡ idsDiffer (rows part)
+unfolding idsDiffer over
+copied n part copy room sorted rest e f g =
+    let z : n - 0 ≡ length part / entryWords = omega arith in
+    let l : length (ids (rows part)) ≡ n - 0 = ap length (ids-rows part) ∙ length-upTo _ (length part / entryWords) ∙ sym z in
+    let front : take (n - 0) copy ≡ ids (rows part) = ap (take (n - 0)) f ∙ take-at (ids (rows part)) _ (n - 0) l in
+    let s : sorted ≡ ascending (ids (rows part)) = g ∙ ap ascending front in
+    let k : length sorted ≡ n - 0 = ap length s ∙ length-sort leb (ids (rows part)) ∙ l in
+    ap (climbs) (take-at sorted rest (n - 0) k ∙ s)
