@@ -1,10 +1,7 @@
 -- The cells of the deepest level, as the code reads them, and the walk over them.
-use mathlib.Core.Path.{_≡_, refl, sym, ap, subst, _∙_}
+use mathlib.Core.Path.{_≡_, ap, _∙_}
 use mathlib.Core.Bool.{true}
-use mathlib.Core.List.{List}
 use Prim.Native.Nat.{ℕ, _^_, _≤_, _<_}
-use native.Mathlib.Omega.{arith}
-use lib.ListN.{length}
 use Rattle.ruler.specs.declared.Cell.{Cell}
 use Rattle.ruler.specs.declared.Ruler.{Ruler}
 use Rattle.ruler.specs.Ruler.{deepest, inBounds, scale, cellOf, cellAt}
@@ -16,7 +13,8 @@ use Rattle.layout.proofs.Partitions.{Fits}
 use Rattle.layout.proofs.RulerCells.{deep-ruler, first-cell, last-cell}
 
 module _ (r : Ruler) (good : inBounds (r .numbers) ≡ true) where
-  module _ (t : Trip) (f : Fits (scale r) t) (m : ℕ) (a b : Cell) (e : m ≡ scale r .m) (p : a ≡ cellAt (scale r) m (t .start)) (q : b ≡ cellAt (scale r) m (t .end)) where
+  module _ (t : Trip) (f : Fits (scale r) t) (m : ℕ) (a b : Cell) (e : m ≡ scale r .m) (p : a ≡ cellAt (scale r) m (t .start))
+      (q : b ≡ cellAt (scale r) m (t .end)) where
     first-is : a ≡ cellOf (scale r .m) (scale r .cell (t .start))
     first-is =
         p ∙ ap (λ (k : ℕ). cellAt (scale r) k (t .start)) e ∙ ap (cellOf (scale r .m)) (up-bottom (scale r .m) (scale r .cell (t .start)))

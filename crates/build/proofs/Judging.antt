@@ -1,16 +1,16 @@
 -- The tests of a table's rows, as the loops over the rows make them, and the room that its entries need.
-use mathlib.Core.Path.{_≡_, refl, sym, ap, ap₂, subst, _∙_}
+use mathlib.Core.Path.{_≡_, sym, ap, ap₂, _∙_}
 use mathlib.Core.Bool.{Bool, true, false, not, _&&_, _||_}
-use mathlib.Core.List.{List, [], _∷_, List·Memᴰ as Mem, List·Memᴰ·head as here, List·Memᴰ·tail as there, List·Memᴰ·not-nil as not-nil}
+use mathlib.Core.List.{List, _∷_, List·Memᴰ as Mem, List·Memᴰ·head as here, List·Memᴰ·tail as there, List·Memᴰ·not-nil as not-nil}
 use Prim.Native.Nat.{ℕ, zero, suc, _+_, _-_, _*_, _/_, _≤_, _<_}
 use native.Mathlib.Numerals.{add-one}
 use native.Mathlib.Omega.{arith}
-use lib.Dec.{T, ltb, eqb}
+use lib.Dec.{ltb, eqb}
 use lib.ListN.{length, getD, drop, drop-of-length-le}
 use lib.Seq.{drop-cons}
 use borrow.Author.Tests.{lt-ltb, le-ltb}
-use Rattle.lists.proofs.Tests.{to-T, of-T, of-not-T}
-use Rattle.lists.proofs.Members.{Pairs, none, more}
+use Rattle.lists.proofs.Tests.{to-T, of-not-T}
+use Rattle.lists.proofs.Members.{none, more}
 use Rattle.lists.proofs.Halving.{at-mem}
 use Rattle.lists.proofs.Sums.{sumOver}
 use Rattle.ruler.specs.declared.Ruler.{Ruler}
@@ -38,7 +38,8 @@ use Rattle.build.specs.Judged.{rowsBack, lengths}
 
 -- ---- the ids of the rows before a row
 
-pub before-turn : (table : List ℕ) (x j : ℕ) → 0 < j → hasId x (rowsBack table j) ≡ eqb (tripAt table (j - 1) .id) x || hasId x (rowsBack table (j - 1))
+pub before-turn : (table : List ℕ) (x j : ℕ) → 0 < j
+    → hasId x (rowsBack table j) ≡ eqb (tripAt table (j - 1) .id) x || hasId x (rowsBack table (j - 1))
 unfolding hasId
 before-turn table x j h = let e : j ≡ suc (j - 1) = omega arith in ap (λ (k : ℕ). hasId x (rowsBack table k)) e
 
@@ -54,7 +55,8 @@ distinct-at (more {l = l} a d) zero (suc i) h g = a (getD l i noTrip) (at-mem no
 distinct-at (more a d) (suc j) (suc i) h g = distinct-at d j i (omega arith) (omega arith)
 
 -- where no id stands twice, no row before row i has its id
-pub before-none : (table : List ℕ) (i x : ℕ) → i < length table / entryWords → x ≡ tripAt table i .id → idsDiffer (rows table) ≡ true → hasId x (rowsBack table i) ≡ false
+pub before-none : (table : List ℕ) (i x : ℕ) → i < length table / entryWords → x ≡ tripAt table i .id → idsDiffer (rows table) ≡ true
+    → hasId x (rowsBack table i) ≡ false
 before-none table i x h e differ =
     let d = of-idsDiffer (rows table) (to-T differ) in
     of-not-T _ (to-hasId x (rowsBack table i) (λ u m q.
@@ -105,7 +107,8 @@ module _ (s : Scale) (there : List Trip) (t : Trip) (k : ℕ) where
 
 pub rows-turn : (s : Scale) (table : List ℕ) (i : ℕ) → i < length table / entryWords
     → firstBadRow s i (rowsBack table i) (drop i (rows table)) Accepted
-    ≡ andThen (rowTests s (rowsBack table i) (tripAt table i) i Accepted) (firstBadRow s (i + 1) (rowsBack table (i + 1)) (drop (i + 1) (rows table)) Accepted)
+    ≡ andThen (rowTests s (rowsBack table i) (tripAt table i) i Accepted)
+    (firstBadRow s (i + 1) (rowsBack table (i + 1)) (drop (i + 1) (rows table)) Accepted)
 unfolding firstBadRow
 rows-turn s table i h =
     let t = tripAt table i in
@@ -115,9 +118,11 @@ rows-turn s table i h =
     (ap (λ (x : List Trip). firstBadRow s i (rowsBack table i) x Accepted) split
     ∙ row-then s (rowsBack table i) t i (firstBadRow s (suc i) (t ∷ rowsBack table i) (drop (suc i) (rows table)) Accepted))
 
-pub rows-end : (s : Scale) (table : List ℕ) (i : ℕ) → length table / entryWords ≤ i → firstBadRow s i (rowsBack table i) (drop i (rows table)) Accepted ≡ Accepted
+pub rows-end : (s : Scale) (table : List ℕ) (i : ℕ) → length table / entryWords ≤ i
+    → firstBadRow s i (rowsBack table i) (drop i (rows table)) Accepted ≡ Accepted
 unfolding firstBadRow
-rows-end s table i h = ap (λ (x : List Trip). firstBadRow s i (rowsBack table i) x Accepted) (drop-of-length-le (rows table) {i = i} (rw length-rows h))
+rows-end s table i h =
+    ap (λ (x : List Trip). firstBadRow s i (rowsBack table i) x Accepted) (drop-of-length-le (rows table) {i = i} (rw length-rows h))
 
 -- ---- the room
 
@@ -126,7 +131,8 @@ pub sum-turn : (f : Trip → ℕ) (table : List ℕ) (i sum : ℕ) → i < lengt
 unfolding sumOver
 sum-turn f table i sum h =
     let split : drop i (rows table) ≡ tripAt table i ∷ drop (i + 1) (rows table) =
-    rw (add-one i) (drop-cons (rows table) i noTrip (rw length-rows h) ∙ ap (λ (u : Trip). u ∷ drop (suc i) (rows table)) (getD-rows table i noTrip h)) in
+    rw (add-one i) (drop-cons (rows table) i noTrip (rw length-rows h)
+    ∙ ap (λ (u : Trip). u ∷ drop (suc i) (rows table)) (getD-rows table i noTrip h)) in
     rw split (omega arith)
 
 pub sum-end : (f : Trip → ℕ) (table : List ℕ) (i : ℕ) → length table / entryWords ≤ i → sumOver f (drop i (rows table)) ≡ 0
@@ -139,7 +145,8 @@ module _ (r : Ruler) (table : List ℕ) (w : Tested r table) where
   originals-are =
       let f = fair-ruler r (w .good) in
       let ok = w .rowsOk in
-      length-same (entries (scale r) Originals (rows table)) (rows table) (originals-distinct (scale r) f (rows table) (ok .fits) (ok .distinct)) (ok .distinct)
+      length-same (entries (scale r) Originals (rows table)) (rows table) (originals-distinct (scale r) f (rows table) (ok .fits) (ok .distinct))
+      (ok .distinct)
       (of-originals (scale r) f (rows table) (ok .fits) (ok .distinct)) (to-originals (scale r) f (rows table) (ok .fits) (ok .distinct))
       ∙ length-rows table
 
@@ -147,7 +154,8 @@ module _ (r : Ruler) (table : List ℕ) (w : Tested r table) where
     pub rows-within : n ≤ all
     rows-within = omega (arith, originals-are, all-entries (scale r) (rows table))
 
-    pub room-tested : (originals replicas : ℕ) → ltb originals (entryWords * n) || ltb replicas (entryWords * (all - n)) ≡ noRoom (scale r) (rows table) (lengths 0 originals replicas)
+    pub room-tested : (originals replicas : ℕ)
+        → ltb originals (entryWords * n) || ltb replicas (entryWords * (all - n)) ≡ noRoom (scale r) (rows table) (lengths 0 originals replicas)
     unfolding noRoom
     room-tested originals replicas =
         let o : n ≡ length (entries (scale r) Originals (rows table)) = omega (arith, originals-are) in

@@ -1,10 +1,9 @@
 -- The chain of a build's refusals, link by link, and what a build leaves.
 use mathlib.Core.Path.{_≡_, refl, sym, ap, ap₂, _∙_}
-use mathlib.Core.Bool.{Bool, true, false, not, true≢false}
-use mathlib.Core.List.{List, [], _∷_, _++_, append-nil}
-use Prim.Native.Nat.{ℕ, _+_, _-_, _*_, _/_, _%_, _≤_}
+use mathlib.Core.Bool.{true, false, true≢false}
+use mathlib.Core.List.{List, [], _++_, append-nil}
+use Prim.Native.Nat.{ℕ, _+_, _-_, _/_, _≤_}
 use native.Mathlib.Omega.{arith}
-use lib.Dec.{T, ltb, eqb}
 use lib.ListN.{length, take, drop, length-append, length-drop, drop-of-length-le}
 use lib.Seq.{take-at, length-take-le}
 use borrow.Rule.Slice.PartMut.{putMid}
@@ -15,7 +14,7 @@ use Rattle.layout.specs.declared.Half.the-variants.{Originals, Replicas}
 use Rattle.layout.specs.declared.Refusal.the-variants.{RulerOutOfBounds, TableSize, DirectoryLength, NoRoom}
 use Rattle.layout.specs.declared.Outcome.{Outcome}
 use Rattle.layout.specs.declared.Outcome.the-variants.{Accepted, Refused}
-use Rattle.layout.specs.Words.{entryWords, rows, directoryLength, halfLength, directoryHalf, arena, Index, lengthsOf, layout}
+use Rattle.layout.specs.Words.{entryWords, rows, directoryLength, halfLength, directoryHalf, arena, lengthsOf, layout}
 use Rattle.layout.specs.Refusals.{isAccepted, refuse, outOfBounds, badSize, badDirectory, noRoom, firstBadRow, buildOutcome}
 use Rattle.layout.specs.Calls.{ifAccepted, index, after, leaving, buildOf}
 use Rattle.layout.proofs.Rows.{length-rows}
@@ -48,43 +47,48 @@ module _ (r : Ruler) (table : List ℕ) (directory originals replicas : ℕ) (go
     unfolding buildOutcome badDirectory refuse
     says-3 e = rw (in-bounds, whole, ne-eqb directory (directoryLength (scale r .m)) e)
 
-    module _ (long : directory ≡ directoryLength (scale r .m)) (o : Outcome) (of-rows : o ≡ firstBadRow (scale r) 0 [] (rows table) Accepted) where
-      -- what is left of the chain
-      rows-first : says ≡ firstBadRow (scale r) 0 [] (rows table) (refuse (noRoom (scale r) (rows table) (lengths directory originals replicas)) NoRoom 0 Accepted)
-      unfolding buildOutcome badDirectory refuse
-      rows-first = rw (in-bounds, whole, eq-eqb directory (directoryLength (scale r .m)) long)
+    module _ (long : directory ≡ directoryLength (scale r .m)) (o : Outcome) (of-rows : o ≡ firstBadRow (scale r) 0 [] (rows table) Accepted)
+      where
+        -- what is left of the chain
+        rows-first : says ≡ firstBadRow (scale r) 0 [] (rows table)
+            (refuse (noRoom (scale r) (rows table) (lengths directory originals replicas)) NoRoom 0 Accepted)
+        unfolding buildOutcome badDirectory refuse
+        rows-first = rw (in-bounds, whole, eq-eqb directory (directoryLength (scale r .m)) long)
 
-      rows-decide : says ≡ andThen o (refuse (noRoom (scale r) (rows table) (lengths directory originals replicas)) NoRoom 0 Accepted)
-      rows-decide =
-          let rest = refuse (noRoom (scale r) (rows table) (lengths directory originals replicas)) NoRoom 0 Accepted in
-          rows-first ∙ rows-then (scale r) 0 [] (rows table) rest ∙ ap (λ (x : Outcome). andThen x rest) (sym of-rows)
+        rows-decide : says ≡ andThen o (refuse (noRoom (scale r) (rows table) (lengths directory originals replicas)) NoRoom 0 Accepted)
+        rows-decide =
+            let rest = refuse (noRoom (scale r) (rows table) (lengths directory originals replicas)) NoRoom 0 Accepted in
+            rows-first ∙ rows-then (scale r) 0 [] (rows table) rest ∙ ap (λ (x : Outcome). andThen x rest) (sym of-rows)
 
-      pub says-bad : isAccepted o ≡ false → o ≡ says
-      says-bad e = sym (rows-decide ∙ then-refused o _ e)
+        pub says-bad : isAccepted o ≡ false → o ≡ says
+        says-bad e = sym (rows-decide ∙ then-refused o _ e)
 
-      module _ (fine : isAccepted o ≡ true) where
-        pub tested : Tested r table
-        tested = record {
-          good = good;
-          few = rw length-rows few-rows;
-          rowsOk = of-firstBadRow (scale r) 0 [] (rows table) Accepted (sym of-rows ∙ is-accepted o fine) .0;
-        }
+        module _ (fine : isAccepted o ≡ true) where
+          pub tested : Tested r table
+          tested = record {
+            good = good;
+            few = rw length-rows few-rows;
+            rowsOk = of-firstBadRow (scale r) 0 [] (rows table) Accepted (sym of-rows ∙ is-accepted o fine) .0;
+          }
 
-        -- the length of the directory has no part in the test of the room
-        room-last : says ≡ refuse (noRoom (scale r) (rows table) (lengths 0 originals replicas)) NoRoom 0 Accepted
-        unfolding noRoom ifAccepted
-        room-last = rows-decide ∙ ap (λ (x : Outcome). andThen x (refuse (noRoom (scale r) (rows table) (lengths directory originals replicas)) NoRoom 0 Accepted)) (is-accepted o fine)
+          -- the length of the directory has no part in the test of the room
+          room-last : says ≡ refuse (noRoom (scale r) (rows table) (lengths 0 originals replicas)) NoRoom 0 Accepted
+          unfolding noRoom ifAccepted
+          room-last =
+              rows-decide ∙ ap (λ (x : Outcome). andThen x
+              (refuse (noRoom (scale r) (rows table) (lengths directory originals replicas)) NoRoom 0 Accepted)) (is-accepted o fine)
 
-        pub says-7 : noRoom (scale r) (rows table) (lengths 0 originals replicas) ≡ true → Refused NoRoom 0 ≡ says
-        unfolding refuse
-        says-7 e = sym (room-last ∙ rw e)
+          pub says-7 : noRoom (scale r) (rows table) (lengths 0 originals replicas) ≡ true → Refused NoRoom 0 ≡ says
+          unfolding refuse
+          says-7 e = sym (room-last ∙ rw e)
 
-        pub says-0 : noRoom (scale r) (rows table) (lengths 0 originals replicas) ≡ false → Accepted ≡ says
-        unfolding refuse
-        says-0 e = sym (room-last ∙ rw e)
+          pub says-0 : noRoom (scale r) (rows table) (lengths 0 originals replicas) ≡ false → Accepted ≡ says
+          unfolding refuse
+          says-0 e = sym (room-last ∙ rw e)
 
 -- numbers out of bounds
-pub says-1 : (s : Scale) (table d o r : List ℕ) → s .good ≡ false → after (Refused RulerOutOfBounds 0) (index d o r) ≡ buildOf s table (index d o r)
+pub says-1 : (s : Scale) (table d o r : List ℕ) → s .good ≡ false
+    → after (Refused RulerOutOfBounds 0) (index d o r) ≡ buildOf s table (index d o r)
 unfolding buildOf leaving ifAccepted buildOutcome outOfBounds refuse
 says-1 s table d o r e = rw e
 
@@ -107,7 +111,8 @@ module _ (s : Scale) (table d o r : List ℕ) (a : Outcome) (says : a ≡ buildO
     accepted-table = of-build s table (lengths (length d) (length o) (length r)) (sym says ∙ is-accepted a fine) .0
 
     pub left-new : (d′ o′ r′ : List ℕ) → d′ ≡ directoryHalf s Originals (rows table) ++ directoryHalf s Replicas (rows table)
-        → o′ ≡ arena s Originals (rows table) (length o) → r′ ≡ arena s Replicas (rows table) (length r) → after a (index d′ o′ r′) ≡ buildOf s table (index d o r)
+        → o′ ≡ arena s Originals (rows table) (length o) → r′ ≡ arena s Replicas (rows table) (length r)
+        → after a (index d′ o′ r′) ≡ buildOf s table (index d o r)
     unfolding buildOf leaving lengthsOf layout ifAccepted
     left-new d′ o′ r′ p q t =
         let made = layout s (rows table) (lengths (length d) (length o) (length r)) in
@@ -117,7 +122,8 @@ module _ (s : Scale) (table d o r : List ℕ) (a : Outcome) (says : a ≡ buildO
 
 -- ---- what each half is filled with
 
-module _ (r : Ruler) (table d o p : List ℕ) (good : inBounds (r .numbers) ≡ true) (w : Table (scale r) (rows table) (lengths (length d) (length o) (length p))) where
+module _ (r : Ruler) (table d o p : List ℕ) (good : inBounds (r .numbers) ≡ true)
+    (w : Table (scale r) (rows table) (lengths (length d) (length o) (length p))) where
   tested-table : Tested r table
   tested-table = record { good = good; few = w .few; rowsOk = w .rowsOk }
 

@@ -5,7 +5,6 @@ use mathlib.Core.List.{List, [], _∷_}
 use Prim.Native.Nat.{ℕ, suc}
 use Rattle.ruler.specs.Ruler.{Scale}
 use Rattle.trip.specs.declared.Trip.{Trip}
-use Rattle.layout.specs.declared.Refusal.{Refusal}
 use Rattle.layout.specs.declared.Refusal.the-variants.{OffRuler, Backward, IdTaken, TooManyPartitions}
 use Rattle.layout.specs.declared.Outcome.{Outcome}
 use Rattle.layout.specs.declared.Outcome.the-variants.{Accepted, Refused}
@@ -49,11 +48,13 @@ four-then false false true d k rest = refl
 four-then false false false true k rest = refl
 four-then false false false false k rest = refl
 
-pub row-then : (s : Scale) (there : List Trip) (t : Trip) (k : ℕ) (rest : Outcome) → rowTests s there t k rest ≡ andThen (rowTests s there t k Accepted) rest
+pub row-then : (s : Scale) (there : List Trip) (t : Trip) (k : ℕ) (rest : Outcome)
+    → rowTests s there t k rest ≡ andThen (rowTests s there t k Accepted) rest
 unfolding rowTests timeTests
 row-then s there t k rest = four-then (offRuler s (t .start) (t .end)) (backward (t .start) (t .end)) (hasId (t .id) there) (inTooMany s t) k rest
 
-pub rows-then : (s : Scale) (k : ℕ) (earlier ts : List Trip) (rest : Outcome) → firstBadRow s k earlier ts rest ≡ andThen (firstBadRow s k earlier ts Accepted) rest
+pub rows-then : (s : Scale) (k : ℕ) (earlier ts : List Trip) (rest : Outcome)
+    → firstBadRow s k earlier ts rest ≡ andThen (firstBadRow s k earlier ts Accepted) rest
 unfolding firstBadRow ifAccepted
 rows-then s k earlier [] rest = refl
 rows-then s k earlier (t ∷ ts) rest =

@@ -1,12 +1,11 @@
 -- Numbers out of bounds leave the words; else the ruler made of them is that of the numbers.
-use mathlib.Core.Path.{_≡_, sym, ap, _∙_}
+use mathlib.Core.Path.{sym, ap, _∙_}
 use Rattle.ruler.specs.declared.Numbers.{Numbers}
 use Rattle.ruler.specs.Ruler.{scaleOf}
 use Rattle.ruler.proofs.Judging.{judged-good, judged-out}
 use Rattle.layout.specs.declared.Outcome.{Outcome}
 use Rattle.layout.specs.Calls.{index, after, buildOf}
 use Rattle.build.proofs.Outcomes.{says-1}
-use native.Mathlib.Omega.{arith}
 use borrow.Author.Needs.{needs}
 use Rattle.build.proofs.build.Statement.{statement}
 use Rattle.build.proofs.build.Tie as tie
@@ -29,7 +28,8 @@ returns c =
     let a = c .before .before .before .before .before .before .before .before .args in
     let words = index (a .directory .now) (a .originals .now) (a .replicas .now) in
     ap (λ (o : Outcome). after o words) (c .refused .ensures)
-    ∙ says-1 (scaleOf (a .numbers)) (a .table .now) (a .directory .now) (a .originals .now) (a .replicas .now) (judged-out _ (sym (c .before .before .before .new .ensures) ∙ c .before .enum-told .given .1))
+    ∙ says-1 (scaleOf (a .numbers)) (a .table .now) (a .directory .now) (a .originals .now) (a .replicas .now)
+    (judged-out _ (sym (c .before .before .before .new .ensures) ∙ c .before .enum-told .given .1))
 
 build-on-requires : tie.Need-build-on-requires
 build-on-requires c κs =
@@ -48,11 +48,13 @@ same-length-3 c = search needs
 
 returns-2 : tie.Need-returns-2
 returns-2 c =
-    let a = c .before .before .before .before .before .before .before .before .before .before .before .before .before .before .before .before .before .before .args in
+    let far = c .before .before .before .before .before .before .before .before .before in
+    let a = far .before .before .before .before .before .before .before .before .before .args in
     let words = index (a .directory .now) (a .originals .now) (a .replicas .now) in
-    let ruler = c .before .before .before .before .before .before .before .before .before .before .before .ruler .given in
-    let made = judged-good _ (ruler .0 .0) (sym (c .before .before .before .before .before .before .before .before .before .before .before .before .before .new .ensures) ∙ ruler .1) in
-    c .before .before .before .before .before .before .build-on .ensures ∙ ap (λ (n : Numbers). buildOf (scaleOf n) (a .table .now) words) (made .numbers)
+    let ruler = far .before .before .ruler .given in
+    let made = judged-good _ (ruler .0 .0) (sym (far .before .before .before .before .new .ensures) ∙ ruler .1) in
+    c .before .before .before .before .before .before .build-on .ensures
+    ∙ ap (λ (n : Numbers). buildOf (scaleOf n) (a .table .now) words) (made .numbers)
 
 pub build-spec : {M : Type 1} → statement M
 build-spec =

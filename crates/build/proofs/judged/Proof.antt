@@ -1,5 +1,5 @@
 -- One link of the chain after another.
-use mathlib.Core.Path.{_≡_, sym, ap, _∙_}
+use mathlib.Core.Path.{sym, ap, _∙_}
 use borrow.Author.Tests.{not-true, not-false}
 use Rattle.layout.specs.Words.{entryWords, directoryLength}
 use Rattle.layout.specs.Refusals.{badSize}
@@ -37,7 +37,8 @@ returns-2 c =
     let g = c .before .before .before .before .before .before in
     let a = g .args in
     let long = c .before .before .directory-length .ensures ∙ ap directoryLength (c .before .before .before .bottom .ensures) in
-    c .refused2 .ensures ∙ says-3 (a .ruler) (a .table .now) (a .directory) (a .originals) (a .replicas) (g .pre) (c .before .before .before .before .if1 .left) (λ e. c .before .if2 .taken (e ∙ sym long))
+    c .refused2 .ensures ∙ says-3 (a .ruler) (a .table .now) (a .directory) (a .originals) (a .replicas) (g .pre)
+    (c .before .before .before .before .if1 .left) (λ e. c .before .if2 .taken (e ∙ sym long))
 
 rows-outcome-requires : tie.Need-rows-outcome-requires
 unfolding entryWords badSize
@@ -54,18 +55,22 @@ unfolding entryWords badSize
 returns-3 c =
     let g = c .before .before .before .before .before .before .before .before in
     let a = g .args in
-    let long = c .before .before .before .if2 .left ∙ c .before .before .before .before .directory-length .ensures ∙ ap directoryLength (c .before .before .before .before .before .bottom .ensures) in
+    let long = c .before .before .before .if2 .left ∙ c .before .before .before .before .directory-length .ensures
+    ∙ ap directoryLength (c .before .before .before .before .before .bottom .ensures) in
     let bad = not-true _ (sym (c .before .is-refused .ensures) ∙ c .if3 .taken) in
-    says-bad (a .ruler) (a .table .now) (a .directory) (a .originals) (a .replicas) (g .pre) (c .before .before .before .before .before .before .if1 .left) long _ (c .before .before .rows-outcome .ensures) bad
+    says-bad (a .ruler) (a .table .now) (a .directory) (a .originals) (a .replicas) (g .pre)
+    (c .before .before .before .before .before .before .if1 .left) long _ (c .before .before .rows-outcome .ensures) bad
 
 lacks-room-requires : tie.Need-lacks-room-requires
 unfolding entryWords badSize
 lacks-room-requires c κs =
     let g = c .before .before .before .before .before .before .before .before in
     let a = g .args in
-    let long = c .before .before .before .if2 .left ∙ c .before .before .before .before .directory-length .ensures ∙ ap directoryLength (c .before .before .before .before .before .bottom .ensures) in
+    let long = c .before .before .before .if2 .left ∙ c .before .before .before .before .directory-length .ensures
+    ∙ ap directoryLength (c .before .before .before .before .before .bottom .ensures) in
     let fine = not-false _ (sym (c .before .is-refused .ensures) ∙ c .if3 .left) in
-    tested (a .ruler) (a .table .now) (a .directory) (a .originals) (a .replicas) (g .pre) (c .before .before .before .before .before .before .if1 .left) long _ (c .before .before .rows-outcome .ensures) fine
+    tested (a .ruler) (a .table .now) (a .directory) (a .originals) (a .replicas) (g .pre)
+    (c .before .before .before .before .before .before .if1 .left) long _ (c .before .before .rows-outcome .ensures) fine
 
 refused-requires-3 : tie.Need-refused-requires-3
 refused-requires-3 c κs = search needs
@@ -73,11 +78,15 @@ refused-requires-3 c κs = search needs
 returns-4 : tie.Need-returns-4
 unfolding entryWords badSize
 returns-4 c =
-    let g = c .before .before .before .before .before .before .before .before .before .before .before in
+    let far = c .before .before .before .before .before .before .before .before .before in
+    let g = far .before .before in
     let a = g .args in
-    let long = c .before .before .before .before .before .before .if2 .left ∙ c .before .before .before .before .before .before .before .directory-length .ensures ∙ ap directoryLength (c .before .before .before .before .before .before .before .before .bottom .ensures) in
+    let long = c .before .before .before .before .before .before .if2 .left
+    ∙ c .before .before .before .before .before .before .before .directory-length .ensures
+    ∙ ap directoryLength (c .before .before .before .before .before .before .before .before .bottom .ensures) in
     let fine = not-false _ (sym (c .before .before .before .before .is-refused .ensures) ∙ c .before .before .before .if3 .left) in
-    c .refused3 .ensures ∙ says-7 (a .ruler) (a .table .now) (a .directory) (a .originals) (a .replicas) (g .pre) (c .before .before .before .before .before .before .before .before .before .if1 .left) long _ (c .before .before .before .before .before .rows-outcome .ensures) fine
+    c .refused3 .ensures ∙ says-7 (a .ruler) (a .table .now) (a .directory) (a .originals) (a .replicas) (g .pre) (far .if1 .left) long _
+    (c .before .before .before .before .before .rows-outcome .ensures) fine
     (sym (c .before .before .lacks-room .ensures) ∙ c .before .if4 .taken)
 
 returns-5 : tie.Need-returns-5
@@ -85,9 +94,12 @@ unfolding entryWords badSize
 returns-5 c =
     let g = c .before .before .before .before .before .before .before .before .before .before in
     let a = g .args in
-    let long = c .before .before .before .before .before .if2 .left ∙ c .before .before .before .before .before .before .directory-length .ensures ∙ ap directoryLength (c .before .before .before .before .before .before .before .bottom .ensures) in
+    let long = c .before .before .before .before .before .if2 .left ∙ c .before .before .before .before .before .before .directory-length .ensures
+    ∙ ap directoryLength (c .before .before .before .before .before .before .before .bottom .ensures) in
     let fine = not-false _ (sym (c .before .before .before .is-refused .ensures) ∙ c .before .before .if3 .left) in
-    says-0 (a .ruler) (a .table .now) (a .directory) (a .originals) (a .replicas) (g .pre) (c .before .before .before .before .before .before .before .before .if1 .left) long _ (c .before .before .before .before .rows-outcome .ensures) fine
+    says-0 (a .ruler) (a .table .now) (a .directory) (a .originals) (a .replicas) (g .pre)
+    (c .before .before .before .before .before .before .before .before .if1 .left) long _
+    (c .before .before .before .before .rows-outcome .ensures) fine
     (sym (c .before .lacks-room .ensures) ∙ c .if4 .left)
 
 pub judged-spec : {M : Type 1} → statement M

@@ -1,6 +1,6 @@
 -- The sum so far, with that of the rows left, is that of all.
-use mathlib.Core.Path.{_≡_, refl, sym, ap, subst, _∙_}
-use Prim.Native.Nat.{ℕ, _+_, _-_, _*_, _/_, _≤_}
+use mathlib.Core.Path.{_≡_, sym, ap, subst, _∙_}
+use Prim.Native.Nat.{_+_, _-_, _*_, _/_, _≤_}
 use lib.ListN.{length, drop}
 use Rattle.lists.proofs.Sums.{sumOver}
 use Rattle.ruler.specs.Ruler.{scale}
@@ -13,7 +13,6 @@ use Rattle.layout.proofs.RulerCells.{deep-ruler}
 use Rattle.build.proofs.Turns.{tested-fits}
 use Rattle.build.proofs.Judging.{sum-turn, sum-end}
 use native.Mathlib.Omega.{arith}
-use borrow.Author.Needs.{needs}
 use Rattle.build.proofs.rows.all_entries.Statement.{statement}
 use Rattle.build.proofs.rows.all_entries.Tie as tie
 
@@ -36,8 +35,11 @@ trip-at-requires c κs = omega arith
 partitions-holding-requires : tie.Need-partitions-holding-requires Inv-loop μ-loop
 unfolding entryWords
 partitions-holding-requires c κs =
-    let g = c .before .before .before .before in
-    (g .pre .good, subst (Fits (scale (g .args .ruler))) (sym (c .trip-at .ensures)) (tested-fits (g .args .ruler) (g .args .table .now) (g .pre) (c .before .before .loop .i) (omega arith)))
+    let g = c .before .before .before .before in (
+      g .pre .good,
+      subst (Fits (scale (g .args .ruler))) (sym (c .trip-at .ensures))
+          (tested-fits (g .args .ruler) (g .args .table .now) (g .pre) (c .before .before .loop .i) (omega arith)),
+    )
 
 cast-sum : tie.Need-cast-sum Inv-loop μ-loop
 cast-sum c = omega arith
@@ -46,7 +48,14 @@ add-sum : tie.Need-add-sum Inv-loop μ-loop
 unfolding entryWords
 add-sum c =
     let g = c .before .before .before .before .before in
-    omega (arith, c .partitions-holding .ensures, never-eleven (scale (g .args .ruler)) (c .before .trip-at .result) (deep-ruler (g .args .ruler) (g .pre .good)), g .pre .few, length-rows (g .args .table .now))
+    omega (
+      arith,
+      c .partitions-holding .ensures,
+      never-eleven (scale (g .args .ruler)) (c .before .trip-at .result)
+          (deep-ruler (g .args .ruler) (g .pre .good)),
+      g .pre .few,
+      length-rows (g .args .table .now),
+    )
 
 add-i : tie.Need-add-i Inv-loop μ-loop
 add-i c = omega arith
@@ -60,9 +69,15 @@ loop-again c =
     let g = c .before .before .before .before .before in
     let k = c .before .before .before .loop in
     let f = partitionsHolding (scale (g .args .ruler)) in
-    let one : c .partitions-holding .result ≡ f (tripAt (g .args .table .now) (k .i)) = c .partitions-holding .ensures ∙ ap f (c .before .trip-at .ensures) in (
+    let one : c .partitions-holding .result ≡ f (tripAt (g .args .table .now) (k .i)) =
+    c .partitions-holding .ensures ∙ ap f (c .before .trip-at .ensures) in (
       omega arith,
-      omega (arith, c .partitions-holding .ensures, never-eleven (scale (g .args .ruler)) (c .before .trip-at .result) (deep-ruler (g .args .ruler) (g .pre .good))),
+      omega (
+        arith,
+        c .partitions-holding .ensures,
+        never-eleven (scale (g .args .ruler)) (c .before .trip-at .result)
+            (deep-ruler (g .args .ruler) (g .pre .good)),
+      ),
       rw one (sum-turn f (g .args .table .now) (k .i) (k .sum) (omega arith)) ∙ k .inv .2,
     )
 

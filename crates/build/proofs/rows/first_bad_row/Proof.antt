@@ -1,19 +1,18 @@
 -- The rows passed their tests, so those left decide.
 use mathlib.Core.Path.{_≡_, refl, sym, ap, _∙_}
 use mathlib.Core.List.{[]}
-use Prim.Native.Nat.{ℕ, _+_, _-_, _/_, _≤_}
+use Prim.Native.Nat.{_+_, _-_, _/_, _≤_}
 use lib.ListN.{length, drop}
 use borrow.Author.Tests.{not-true, not-false}
 use Rattle.ruler.specs.Ruler.{scale}
 use Rattle.layout.specs.declared.Outcome.{Outcome}
 use Rattle.layout.specs.declared.Outcome.the-variants.{Accepted}
 use Rattle.layout.specs.Words.{entryWords, rows}
-use Rattle.layout.specs.Refusals.{isAccepted, firstBadRow}
+use Rattle.layout.specs.Refusals.{firstBadRow}
 use Rattle.layout.proofs.Links.{andThen, then-refused, then-accepted}
 use Rattle.build.specs.Judged.{rowsBack}
 use Rattle.build.proofs.Judging.{rows-turn, rows-end}
 use native.Mathlib.Omega.{arith}
-use borrow.Author.Needs.{needs}
 use Rattle.build.proofs.rows.first_bad_row.Statement.{statement}
 use Rattle.build.proofs.rows.first_bad_row.Tie as tie
 
@@ -46,7 +45,8 @@ returns c =
     let found = c .before .before .row-outcome .result in
     let bad = not-true _ (sym (c .before .is-refused .ensures) ∙ c .if1 .taken) in
     let rest = firstBadRow s (k .i + 1) (rowsBack (g .args .table .now) (k .i + 1)) (drop (k .i + 1) (rows (g .args .table .now))) Accepted in
-    sym (then-refused found rest bad) ∙ ap (λ (o : Outcome). andThen o rest) (c .before .before .row-outcome .ensures) ∙ sym (rows-turn s (g .args .table .now) (k .i) (omega arith)) ∙ k .inv .1
+    sym (then-refused found rest bad) ∙ ap (λ (o : Outcome). andThen o rest) (c .before .before .row-outcome .ensures)
+    ∙ sym (rows-turn s (g .args .table .now) (k .i) (omega arith)) ∙ k .inv .1
 
 add-i : tie.Need-add-i Inv-loop μ-loop
 add-i c = omega arith
@@ -62,8 +62,11 @@ loop-again c =
     let s = scale (g .args .ruler) in
     let found = c .before .before .row-outcome .result in
     let fine = not-false _ (sym (c .before .is-refused .ensures) ∙ c .if1 .left) in
-    let rest = firstBadRow s (k .i + 1) (rowsBack (g .args .table .now) (k .i + 1)) (drop (k .i + 1) (rows (g .args .table .now))) Accepted in
-    (omega arith, sym (then-accepted found rest fine) ∙ ap (λ (o : Outcome). andThen o rest) (c .before .before .row-outcome .ensures) ∙ sym (rows-turn s (g .args .table .now) (k .i) (omega arith)) ∙ k .inv .1)
+    let rest = firstBadRow s (k .i + 1) (rowsBack (g .args .table .now) (k .i + 1)) (drop (k .i + 1) (rows (g .args .table .now))) Accepted in (
+      omega arith,
+      sym (then-accepted found rest fine) ∙ ap (λ (o : Outcome). andThen o rest) (c .before .before .row-outcome .ensures)
+          ∙ sym (rows-turn s (g .args .table .now) (k .i) (omega arith)) ∙ k .inv .1,
+    )
 
 returns-2 : tie.Need-returns-2 Inv-loop μ-loop
 unfolding entryWords

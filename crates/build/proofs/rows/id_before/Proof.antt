@@ -1,16 +1,13 @@
 -- The rows passed do not have the id, so those left decide.
 use mathlib.Core.Path.{_≡_, refl, sym, ap, _∙_}
 use mathlib.Core.Bool.{Bool, _||_}
-use Prim.Native.Nat.{ℕ, _-_, _/_, _≤_}
-use lib.ListN.{length}
-use lib.Dec.{eqb}
+use Prim.Native.Nat.{ℕ, _-_, _≤_}
 use borrow.Author.Tests.{eq-eqb, ne-eqb}
 use Rattle.trip.specs.declared.Trip.{Trip}
 use Rattle.layout.specs.Refusals.{hasId}
 use Rattle.build.specs.Judged.{rowsBack}
 use Rattle.build.proofs.Judging.{before-turn}
 use native.Mathlib.Omega.{arith}
-use borrow.Author.Needs.{needs}
 use Rattle.build.proofs.rows.id_before.Statement.{statement}
 use Rattle.build.proofs.rows.id_before.Tie as tie
 
@@ -34,7 +31,8 @@ returns c =
     let g = c .before .before .before .before .before .before .args in
     let k = c .before .before .before .before .loop in
     let has = eq-eqb _ _ (sym (ap (λ (t : Trip). t .id) (c .before .before .trip-at .ensures)) ∙ c .if1 .taken) in
-    sym (ap (λ (b : Bool). b || hasId (g .id) (rowsBack (g .table .now) (k .j - 1))) has) ∙ sym (before-turn (g .table .now) (g .id) (k .j) (omega arith)) ∙ k .inv .1
+    sym (ap (λ (b : Bool). b || hasId (g .id) (rowsBack (g .table .now) (k .j - 1))) has)
+    ∙ sym (before-turn (g .table .now) (g .id) (k .j) (omega arith)) ∙ k .inv .1
 
 loop-less : tie.Need-loop-less Inv-loop μ-loop
 loop-less c = omega arith
@@ -44,7 +42,8 @@ loop-again c =
     let g = c .before .before .before .before .before .before .args in
     let k = c .before .before .before .before .loop in
     let lacks = ne-eqb _ _ (λ e. c .if1 .left (ap (λ (t : Trip). t .id) (c .before .before .trip-at .ensures) ∙ e)) in
-    let rest = sym (ap (λ (b : Bool). b || hasId (g .id) (rowsBack (g .table .now) (k .j - 1))) lacks) ∙ sym (before-turn (g .table .now) (g .id) (k .j) (omega arith)) in
+    let rest = sym (ap (λ (b : Bool). b || hasId (g .id) (rowsBack (g .table .now) (k .j - 1))) lacks)
+    ∙ sym (before-turn (g .table .now) (g .id) (k .j) (omega arith)) in
     (omega (arith, k .inv .0), rest ∙ k .inv .1)
 
 returns-2 : tie.Need-returns-2 Inv-loop μ-loop

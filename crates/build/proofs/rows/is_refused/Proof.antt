@@ -1,6 +1,5 @@
 -- Each case computes.
 use Rattle.layout.specs.Refusals.{isAccepted}
-use native.Mathlib.Omega.{arith}
 use borrow.Author.Needs.{needs}
 use Rattle.build.proofs.rows.is_refused.Statement.{statement}
 use Rattle.build.proofs.rows.is_refused.Tie as tie

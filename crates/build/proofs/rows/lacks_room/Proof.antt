@@ -1,10 +1,8 @@
 -- The originals are the rows, and the replicas the other entries.
-use mathlib.Core.Path.{_≡_, refl, sym, _∙_}
-use Prim.Native.Nat.{ℕ, _*_, _/_}
+use mathlib.Core.Path.{refl}
 use Rattle.ruler.specs.Ruler.{scale}
 use Rattle.layout.specs.Words.{entryWords}
 use Rattle.layout.specs.Refusals.{mostPartitions, partitionsHolding}
-use Rattle.layout.proofs.Rows.{length-rows}
 use Rattle.lists.proofs.Bounded.{sum-most}
 use Rattle.build.proofs.Judging.{rows-within, room-tested}
 use native.Mathlib.Omega.{arith}
@@ -28,7 +26,12 @@ mul-result-2 : tie.Need-mul-result-2
 unfolding entryWords
 mul-result-2 c =
     let g = c .before .before in
-    omega (arith, c .all-entries .ensures, sum-most (partitionsHolding (scale (g .args .ruler))) mostPartitions _ (g .pre .rowsOk .few), g .pre .few)
+    omega (
+      arith,
+      c .all-entries .ensures,
+      sum-most (partitionsHolding (scale (g .args .ruler))) mostPartitions _ (g .pre .rowsOk .few),
+      g .pre .few,
+    )
 
 returns : tie.Need-returns
 unfolding entryWords
