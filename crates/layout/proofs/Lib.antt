@@ -15,3 +15,6 @@ pub mod Walk
 pub mod Starred
 pub mod RowParts
 pub mod Keys
+pub mod Counted
+pub mod Checked
+pub mod Local

@@ -10,3 +10,5 @@ pub mod Sifting
 pub mod Replaced
 pub mod Alike
 pub mod Halving
+pub mod Sublists
+pub mod Sums

@@ -1,0 +1,37 @@
+-- The tests 1, 3, 8 that each call on an index begins with: where the check of the index is refused, so is the call, for the same reason;
+-- where it passes, the rest of the call's chain decides.
+use mathlib.Core.Path.{_≡_, refl}
+use mathlib.Core.Bool.{Bool, true, false, not}
+use Prim.Native.Nat.{ℕ}
+use native.Mathlib.Omega.{arith}
+use Rattle.lists.proofs.Tests.{of-not-not}
+use Rattle.ruler.specs.Ruler.{Scale}
+use Rattle.layout.specs.declared.Refusal.{Refusal}
+use Rattle.layout.specs.declared.Outcome.{Outcome}
+use Rattle.layout.specs.declared.Outcome.the-variants.{Accepted, Refused}
+use Rattle.layout.specs.Words.{Index}
+use Rattle.layout.specs.Refusals.{refuse, indexTests, checkOutcome}
+use Rattle.layout.proofs.Indexes.{Indexed}
+use Rattle.layout.proofs.Edited.{of-indexTests, to-indexTests}
+
+-- one link of a chain: refused here for every rest, or not here
+later : (b : Bool) (why : Refusal) (d : ℕ) (first rest : Outcome) → ((by : Refusal) (k : ℕ) → first ≡ Refused by k → rest ≡ Refused by k)
+    → (by : Refusal) (k : ℕ) → refuse b why d first ≡ Refused by k → refuse b why d rest ≡ Refused by k
+unfolding refuse
+later true why d first rest h by k e = e
+later false why d first rest h by k e = h by k e
+
+accepted-not : {A : Type 0} (by : Refusal) (k : ℕ) → Accepted ≡ Refused by k → A
+accepted-not by k e = let z : _≡_ {A = ℕ} 0 1 = cc in absurd (omega arith)
+
+pub refused-for-all : (s : Scale) (x : Index) (why : Refusal) (d : ℕ) → checkOutcome s x ≡ Refused why d → (rest : Outcome) → indexTests s x rest ≡ Refused why d
+unfolding checkOutcome indexTests
+refused-for-all s x why d e rest = later _ _ 0 _ _ (later _ _ 0 _ _ (later _ _ 0 Accepted rest (λ by k q. accepted-not by k q))) why d e
+
+-- an index that passes: the facts of it, and the outcome of any call on it
+pub checked : (s : Scale) (x : Index) → checkOutcome s x ≡ Accepted → Indexed s x
+unfolding checkOutcome
+checked s x e = of-indexTests s x Accepted e .0
+
+pub passed : (s : Scale) (x : Index) → checkOutcome s x ≡ Accepted → (rest : Outcome) → indexTests s x rest ≡ rest
+passed s x e rest = to-indexTests s x rest (checked s x e)
