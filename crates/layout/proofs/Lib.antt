@@ -18,3 +18,5 @@ pub mod Keys
 pub mod Counted
 pub mod Checked
 pub mod Local
+pub mod SlotEdits
+pub mod RoomAdded

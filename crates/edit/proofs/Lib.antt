@@ -1,0 +1,5 @@
+pub mod Halfway
+pub mod OneSlot
+pub mod Grown
+pub mod Shrunk
+pub mod Spotted

@@ -1,0 +1,3 @@
+// Edits of an index: one trip added, or the trip of an id removed.
+mod half;
+mod one_slot;
