@@ -1,16 +1,20 @@
 -- The tests 1, 3, 8 that each call on an index begins with: where the check of the index is refused, so is the call, for the same reason;
 -- where it passes, the rest of the call's chain decides.
-use mathlib.Core.Path.{_≡_, refl}
+use mathlib.Core.Path.{_≡_, sym, ap, _∙_}
 use mathlib.Core.Bool.{Bool, true, false, not}
 use Prim.Native.Nat.{ℕ}
 use native.Mathlib.Omega.{arith}
-use Rattle.lists.proofs.Tests.{of-not-not}
+use lib.ListN.{length}
+use borrow.Author.Tests.{ne-eqb}
+use Rattle.lists.proofs.Tests.{to-T}
 use Rattle.ruler.specs.Ruler.{Scale}
 use Rattle.layout.specs.declared.Refusal.{Refusal}
+use Rattle.layout.specs.declared.Refusal.the-variants.{RulerOutOfBounds, DirectoryLength, NotAnIndex}
 use Rattle.layout.specs.declared.Outcome.{Outcome}
 use Rattle.layout.specs.declared.Outcome.the-variants.{Accepted, Refused}
-use Rattle.layout.specs.Words.{Index}
-use Rattle.layout.specs.Refusals.{refuse, indexTests, checkOutcome}
+use Rattle.layout.specs.Words.{Index, directoryLength}
+use Rattle.layout.specs.Refusals.{refuse, outOfBounds, badDirectory, isIndex, indexTests, checkOutcome}
+use Rattle.layout.proofs.Chains.{refuse-pass, refuse-taken, to-outOfBounds, to-badDirectory}
 use Rattle.layout.proofs.Indexes.{Indexed}
 use Rattle.layout.proofs.Edited.{of-indexTests, to-indexTests}
 
@@ -35,3 +39,24 @@ checked s x e = of-indexTests s x Accepted e .0
 
 pub passed : (s : Scale) (x : Index) → checkOutcome s x ≡ Accepted → (rest : Outcome) → indexTests s x rest ≡ rest
 passed s x e rest = to-indexTests s x rest (checked s x e)
+
+-- ---- the outcome of the check, test by test
+
+module _ (s : Scale) (x : Index) where
+  pub check-bounds : s .good ≡ false → Refused RulerOutOfBounds 0 ≡ checkOutcome s x
+  unfolding checkOutcome indexTests outOfBounds
+  check-bounds e = sym (refuse-taken _ _ 0 _ (rw e tt))
+
+  pub check-length : s .good ≡ true → (length (x .directory) ≡ directoryLength (s .m) → ⊥) → Refused DirectoryLength 0 ≡ checkOutcome s x
+  unfolding checkOutcome indexTests badDirectory
+  check-length e n =
+      sym (refuse-pass _ _ 0 _ (to-outOfBounds s (to-T e))
+      ∙ refuse-taken _ _ 0 _ (rw (ne-eqb (length (x .directory)) (directoryLength (s .m)) n) tt))
+
+  pub check-words : (b : Bool) → s .good ≡ true → length (x .directory) ≡ directoryLength (s .m) → isIndex s x ≡ b
+      → refuse (not b) NotAnIndex 0 Accepted ≡ checkOutcome s x
+  unfolding checkOutcome indexTests
+  check-words b e l q =
+      sym (refuse-pass _ _ 0 _ (to-outOfBounds s (to-T e))
+      ∙ refuse-pass _ _ 0 _ (to-badDirectory s (length (x .directory)) l)
+      ∙ ap (λ (c : Bool). refuse (not c) NotAnIndex 0 Accepted) q)

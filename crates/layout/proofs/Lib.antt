@@ -20,3 +20,4 @@ pub mod Checked
 pub mod Local
 pub mod SlotEdits
 pub mod RoomAdded
+pub mod ByLevel

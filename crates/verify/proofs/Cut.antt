@@ -1,0 +1,225 @@
+-- One half's words: those that pass `halfOk` hold the trips that they are cut into, slot after slot; and words that hold the lists
+-- f 0 .. f (n - 1) pass, and are cut into these.
+use mathlib.Core.Path.{_≡_, refl, sym, ap, ap₂, _∙_}
+use mathlib.Core.Bool.{Bool, true, _&&_}
+use mathlib.Core.List.{List, [], _∷_, _++_, append-assoc}
+use Prim.Native.Nat.{ℕ, zero, suc, _+_, _-_, _*_, _%_, _≤_, _<_}
+use native.Mathlib.Omega.{arith}
+use native.Mathlib.Numerals.{add-one}
+use native.Mathlib.Nat.{mul-zero}
+use native.Mathlib.Decide.{le-ind}
+use lib.Dec.{T, leb, eqb, leb→le, le→leb, eqb→eq, eqb-refl}
+use lib.ListN.{length, getD, take, drop, replicate, length-append, length-drop, take-append-drop}
+use lib.Seq.{length-take-le, take-at, drop-at, take-add, ext-getD}
+use Rattle.lists.specs.Lists.{joined, upTo, padded}
+use Rattle.lists.proofs.Tests.{of-and, to-and, to-T}
+use Rattle.lists.proofs.Joined.{joined-add}
+use Rattle.lists.proofs.Upto.{length-upTo, getD-upTo}
+use Rattle.trip.specs.declared.Trip.{Trip}
+use Rattle.layout.specs.Words.{entryWords, words, rows}
+use Rattle.layout.proofs.Rows.{rows-words, words-rows, words-append, words-length, words-le}
+use Rattle.layout.proofs.Local.{Laid, laid-room}
+use Rattle.verify.specs.Passing.{rising, blank}
+use Rattle.verify.specs.Local.{total, halfOk, SlotIn, slotWords, slotAt, tripsOf}
+
+-- ---- the tests on words, as facts
+
+of-rising : (n : ℕ) (ds : List ℕ) → T (rising n ds) → (k : ℕ) → k < length ds → getD (n ∷ ds) k 0 ≤ getD ds k 0
+unfolding rising
+of-rising n [] t k h = absurd (omega arith)
+of-rising n (d ∷ ds) t zero h = leb→le n d (of-and (leb n d) (rising d ds) t .0)
+of-rising n (d ∷ ds) t (suc k) h = of-rising d ds (of-and (leb n d) (rising d ds) t .1) k (omega arith)
+
+to-rising : (n : ℕ) (ds : List ℕ) → ((k : ℕ) → k < length ds → getD (n ∷ ds) k 0 ≤ getD ds k 0) → T (rising n ds)
+unfolding rising
+to-rising n [] h = tt
+to-rising n (d ∷ ds) h = to-and (leb n d) (rising d ds) (le→leb n d (h zero (omega arith))) (to-rising d ds (λ k l. h (suc k) (omega arith)))
+
+of-blank : (xs : List ℕ) → T (blank xs) → xs ≡ replicate (length xs) 0
+unfolding blank
+of-blank [] t = refl
+of-blank (x ∷ xs) t = let w = of-and (eqb x 0) (blank xs) t in ap₂ _∷_ (eqb→eq x 0 (w .0)) (of-blank xs (w .1))
+
+to-blank : (n : ℕ) → T (blank (replicate n 0))
+unfolding blank
+to-blank zero = tt
+to-blank (suc n) = to-blank n
+
+-- the counts of n slots start at 0 and never fall, the entries fit the arena, and zeros follow them
+pub record Cut (dir arena : List ℕ) (n : ℕ) : Type 0 where
+  pub first : getD dir 0 0 ≡ 0
+  pub up : (k : ℕ) → k < n → getD dir k 0 ≤ getD dir (k + 1) 0
+  pub fits : entryWords * getD dir n 0 ≤ length arena
+  pub rest : drop (entryWords * getD dir n 0) arena ≡ replicate (length arena - entryWords * getD dir n 0) 0
+
+rising-at : (dir : List ℕ) (n : ℕ) → length dir ≡ n + 1 → T (rising (getD dir 0 0) (drop 1 dir)) → (k : ℕ) → k < n → getD dir k 0 ≤ getD dir (k + 1) 0
+rising-at [] n l t k h = absurd (omega arith)
+rising-at (d ∷ ds) n l t k h = rw add-one (of-rising d ds t k (omega arith))
+
+at-rising : (dir : List ℕ) (n : ℕ) → length dir ≡ n + 1 → ((k : ℕ) → k < n → getD dir k 0 ≤ getD dir (k + 1) 0) → T (rising (getD dir 0 0) (drop 1 dir))
+unfolding rising
+at-rising [] n l h = tt
+at-rising (d ∷ ds) n l h = to-rising d ds (λ k i. rw add-one at (h k (omega arith)))
+
+pub total-at : (dir : List ℕ) (n : ℕ) → length dir ≡ n + 1 → total dir ≡ getD dir n 0
+unfolding total
+total-at dir n l = let e : length dir - 1 ≡ n = omega arith in rw e
+
+pub of-half : (dir arena : List ℕ) (n : ℕ) → length dir ≡ n + 1 → T (halfOk dir arena) → Cut dir arena n
+unfolding halfOk
+of-half dir arena n l t =
+    let u = entryWords * total dir in
+    let e : u ≡ entryWords * getD dir n 0 = ap (λ (k : ℕ). entryWords * k) (total-at dir n l) in
+    let a = of-and (eqb (getD dir 0 0) 0) (rising (getD dir 0 0) (drop 1 dir) && (leb u (length arena) && blank (drop u arena))) t in
+    let b = of-and (rising (getD dir 0 0) (drop 1 dir)) (leb u (length arena) && blank (drop u arena)) (a .1) in
+    let c = of-and (leb u (length arena)) (blank (drop u arena)) (b .1) in
+    record {
+      first = eqb→eq (getD dir 0 0) 0 (a .0);
+      up = rising-at dir n l (b .0);
+      fits = rw e at (leb→le u (length arena) (c .0));
+      rest = rw (length-drop, e) at (of-blank (drop u arena) (c .1));
+    }
+
+pub to-half : (dir arena : List ℕ) (n : ℕ) → length dir ≡ n + 1 → Cut dir arena n → T (halfOk dir arena)
+unfolding halfOk
+to-half dir arena n l c =
+    let u = entryWords * getD dir n 0 in
+    rw (total-at dir n l)
+    (to-and (eqb (getD dir 0 0) 0) _ (rw (c .first) tt)
+    (to-and (rising (getD dir 0 0) (drop 1 dir)) _ (at-rising dir n l (c .up))
+    (to-and (leb u (length arena)) _ (le→leb u (length arena) (c .fits)) (rw (c .rest) (to-blank (length arena - u))))))
+
+-- ---- words that are cut so
+
+-- whole entries between two counts
+whole-part : (a b : ℕ) → a ≤ b → (entryWords * b - entryWords * a) % entryWords ≡ 0
+unfolding entryWords
+whole-part a b h = omega arith
+
+count-words : (a b : ℕ) → entryWords * a ≡ entryWords * b → a ≡ b
+unfolding entryWords
+count-words a b e = omega arith
+
+module _ (dir arena : List ℕ) (n : ℕ) (c : Cut dir arena n) where
+  up-to : (k : ℕ) → k ≤ n → getD dir k 0 ≤ getD dir n 0
+  up-to k h =
+      le-ind (λ (j : ℕ). j ≤ n → getD dir k 0 ≤ getD dir j 0) (λ g. omega arith)
+      (λ j kj ih g. let i = ih (omega arith) in let s : getD dir j 0 ≤ getD dir (suc j) 0 = rw add-one at (c .up j g) in omega arith)
+      n h (omega arith)
+
+  pub word-fits : (k : ℕ) → k ≤ n → entryWords * getD dir k 0 ≤ length arena
+  word-fits k h = omega (arith, words-le (up-to k h), c .fits)
+
+  slot-whole : (k : ℕ) → k < n → words (slotAt dir arena k) ≡ slotWords dir arena k
+  unfolding slotAt slotWords
+  slot-whole k h =
+      let a = entryWords * getD dir k 0 in
+      let b = entryWords * getD dir (k + 1) 0 in
+      let fits : b ≤ length arena = word-fits (k + 1) (omega arith) in
+      let long : length (take (b - a) (drop a arena)) ≡ b - a = length-take-le (b - a) (drop a arena) (rw length-drop (omega arith)) in
+      words-rows (take (b - a) (drop a arena)) (rw long (whole-part (getD dir k 0) (getD dir (k + 1) 0) (c .up k h)))
+
+  -- the words before slot k are those of the slots before it
+  pub words-cut : (k : ℕ) → k ≤ n → words (joined (slotAt dir arena) k) ≡ take (entryWords * getD dir k 0) arena
+  unfolding joined words slotWords
+  words-cut zero h = rw (c .first, mul-zero) refl
+  words-cut (suc k) h =
+      let a = entryWords * getD dir k 0 in
+      let b = entryWords * getD dir (k + 1) 0 in
+      let e : a + (b - a) ≡ b = omega (arith, words-le (c .up k (omega arith))) in
+      words-append (joined (slotAt dir arena) k) (slotAt dir arena k) ∙ ap₂ _++_ (words-cut k (omega arith)) (slot-whole k (omega arith))
+      ∙ sym (take-add a (b - a) arena) ∙ ap (λ (i : ℕ). take i arena) e ∙ rw add-one refl
+
+  pub count-cut : (k : ℕ) → k ≤ n → length (joined (slotAt dir arena) k) ≡ getD dir k 0
+  count-cut k h =
+      let a = words-length (joined (slotAt dir arena) k) in
+      let b = ap length (words-cut k h) in
+      let d = length-take-le (entryWords * getD dir k 0) arena (word-fits k h) in
+      count-words _ _ (sym a ∙ b ∙ d)
+
+  pub cut-laid : length dir ≡ n + 1 → Laid dir arena (slotAt dir arena) n
+  unfolding padded
+  cut-laid l = record {
+    counts = ext-getD 0 dir (upTo (λ k. length (joined (slotAt dir arena) k)) (n + 1)) (l ∙ sym (length-upTo _ (n + 1)))
+        (λ i h. sym (getD-upTo (λ k. length (joined (slotAt dir arena) k)) (n + 1) i 0 (omega arith) ∙ count-cut i (omega arith)));
+    stored =
+        let u = entryWords * getD dir n 0 in
+        let e : words (joined (slotAt dir arena) n) ≡ take u arena = words-cut n (omega arith) in
+        rw (e, length-take-le u arena (c .fits), ← c .rest) (sym (take-append-drop u arena));
+  }
+
+  -- the trips of all slots
+  pub trips-cut : length dir ≡ n + 1 → tripsOf dir arena ≡ joined (slotAt dir arena) n
+  unfolding tripsOf
+  trips-cut l = rw (total-at dir n l, ← words-cut n (omega arith)) (rows-words (joined (slotAt dir arena) n))
+
+-- what a half that passes shows of slot k
+pub slot-in : (dir arena : List ℕ) (n : ℕ) → length dir ≡ n + 1 → halfOk dir arena ≡ true → (k : ℕ) → k < n → SlotIn dir arena k
+slot-in dir arena n l e k h =
+    let c = of-half dir arena n l (to-T e) in
+    record { inside = omega arith; low = c .up k h; high = word-fits dir arena n c (k + 1) (omega arith) }
+
+-- ---- words that hold lists
+
+module _ {A : Type 0} (f : ℕ → List A) where
+  none-before : length (joined f 0) ≡ 0
+  unfolding joined
+  none-before = refl
+
+  more-before : (k : ℕ) → length (joined f (k + 1)) ≡ length (joined f k) + length (f k)
+  unfolding joined
+  more-before k = rw (add-one, length-append) refl
+
+  -- the slots before slot k, slot k, and those after it
+  split : (n k : ℕ) → k < n → joined f n ≡ joined f k ++ (f k ++ joined (λ i. f (suc k + i)) (n - suc k))
+  unfolding joined
+  split n k h =
+      let e : suc k + (n - suc k) ≡ n = omega arith in
+      ap (joined f) (sym e) ∙ joined-add f (suc k) (n - suc k) ∙ append-assoc (joined f k) (f k) _
+
+part-words : (a b l : ℕ) → b ≡ a + l → entryWords * b - entryWords * a ≡ entryWords * l
+unfolding entryWords
+part-words a b l e = omega arith
+
+module _ (dir arena : List ℕ) (f : ℕ → List Trip) (n : ℕ) (w : Laid dir arena f n) where
+  pub laid-length : length dir ≡ n + 1
+  laid-length = ap length (w .counts) ∙ length-upTo _ (n + 1)
+
+  laid-count : (k : ℕ) → k ≤ n → getD dir k 0 ≡ length (joined f k)
+  laid-count k h = ap (λ (d : List ℕ). getD d k 0) (w .counts) ∙ getD-upTo (λ k. length (joined f k)) (n + 1) k 0 (omega arith)
+
+  pub laid-cut : Cut dir arena n
+  unfolding padded
+  laid-cut =
+      let ws = words (joined f n) in
+      let l : length ws ≡ entryWords * length (joined f n) = words-length (joined f n) in
+      record {
+        first = laid-count 0 (omega arith) ∙ none-before f;
+        up = λ k h. rw (laid-count k (omega arith), laid-count (k + 1) (omega arith)) (omega (arith, more-before f k));
+        fits = rw (laid-count n (omega arith)) (laid-room dir arena f n w);
+        rest = rw (laid-count n (omega arith), ← l)
+            (ap (drop (length ws)) (w .stored) ∙ drop-at ws (replicate (length arena - length ws) 0) (length ws) refl);
+      }
+
+  -- cut at its slots, each list comes back
+  pub laid-at : (k : ℕ) → k < n → slotAt dir arena k ≡ f k
+  unfolding slotAt slotWords padded
+  laid-at k h =
+      let zeros : List ℕ = replicate (length arena - length (words (joined f n))) 0 in
+      let later = joined (λ i. f (suc k + i)) (n - suc k) in
+      let a = entryWords * getD dir k 0 in
+      let b = entryWords * getD dir (k + 1) 0 in
+      let parts : words (joined f n) ≡ words (joined f k) ++ (words (f k) ++ words later) =
+      ap words (split f n k h) ∙ words-append (joined f k) (f k ++ later)
+      ∙ ap (λ (ws : List ℕ). words (joined f k) ++ ws) (words-append (f k) later)
+      in
+      let whole : arena ≡ words (joined f k) ++ (words (f k) ++ (words later ++ zeros)) =
+      w .stored ∙ ap (λ (ws : List ℕ). ws ++ zeros) parts ∙ simp append-assoc
+      in
+      let low : length (words (joined f k)) ≡ a = rw (laid-count k (omega arith)) (words-length (joined f k)) in
+      let next = laid-count (k + 1) (omega arith) ∙ more-before f k in
+      let size : length (words (f k)) ≡ b - a =
+      words-length (f k) ∙ sym (part-words (getD dir k 0) (getD dir (k + 1) 0) (length (f k)) (omega (arith, next, laid-count k (omega arith))))
+      in
+      let tail : drop a arena ≡ words (f k) ++ (words later ++ zeros) = ap (drop a) whole ∙ drop-at (words (joined f k)) _ a low in
+      ap rows (ap (take (b - a)) tail ∙ take-at (words (f k)) (words later ++ zeros) (b - a) size) ∙ rows-words (f k)

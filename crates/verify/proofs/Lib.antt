@@ -1,0 +1,10 @@
+pub mod Places
+pub mod Passes
+pub mod Cut
+pub mod Passing
+pub mod Home
+pub mod Differing
+pub mod Halving
+pub mod Walk
+pub mod Law
+pub mod Parts

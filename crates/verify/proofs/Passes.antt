@@ -1,0 +1,151 @@
+-- A turn, a stop and the end of each loop of the check: the test of what is left is the test of the whole.
+use mathlib.Core.Path.{_≡_, refl, ap, _∙_}
+use mathlib.Core.Bool.{Bool, true, false, _&&_, and-false}
+use mathlib.Core.List.{List, [], _∷_}
+use Prim.Native.Nat.{ℕ, zero, suc, _+_, _-_, _/_, _≤_, _<_}
+use native.Mathlib.Numerals.{add-one}
+use native.Mathlib.Decide.{decLt}
+use native.Mathlib.Omega.{arith}
+use lib.Dec.{ltb}
+use lib.ListN.{length, getD, drop, drop-of-length-le}
+use lib.Seq.{drop-cons}
+use borrow.Author.Tests.{le-leb, lt-leb, eq-eqb, ne-eqb, lt-ltb, le-ltb}
+use Rattle.lists.proofs.Sums.{sumOver}
+use Rattle.trip.specs.declared.Trip.{Trip}
+use Rattle.layout.specs.Words.{entryWords, tripAt, rows}
+use Rattle.layout.proofs.Rows.{length-rows, getD-rows}
+use Rattle.verify.specs.Passing.{below, each, some, after, inRow, climbs, rising, blank}
+
+-- ---- words
+
+module _ (xs : List ℕ) (i : ℕ) where
+  left : i < length xs → drop i xs ≡ getD xs i 0 ∷ drop (i + 1) xs
+  left h = rw (add-one, drop-cons xs i 0)
+
+  pub blank-more : i < length xs → getD xs i 0 ≡ 0 → blank (drop (i + 1) xs) ≡ blank (drop i xs)
+  unfolding blank
+  blank-more h e = rw (left h, eq-eqb (getD xs i 0) 0 e)
+
+  pub blank-stop : i < length xs → (getD xs i 0 ≡ 0 → ⊥) → blank (drop i xs) ≡ false
+  unfolding blank
+  blank-stop h e = rw (left h, ne-eqb (getD xs i 0) 0 e)
+
+  pub blank-end : length xs ≤ i → blank (drop i xs) ≡ true
+  unfolding blank
+  blank-end h = rw (drop-of-length-le xs h)
+
+  pub rising-more : (n : ℕ) → i < length xs → n ≤ getD xs i 0 → rising (getD xs i 0) (drop (i + 1) xs) ≡ rising n (drop i xs)
+  unfolding rising
+  rising-more n h e = rw (left h, le-leb n (getD xs i 0) e)
+
+  pub rising-stop : (n : ℕ) → i < length xs → getD xs i 0 < n → rising n (drop i xs) ≡ false
+  unfolding rising
+  rising-stop n h e = rw (left h, lt-leb n (getD xs i 0) e)
+
+  pub rising-end : (n : ℕ) → length xs ≤ i → rising n (drop i xs) ≡ true
+  unfolding rising
+  rising-end n h = rw (drop-of-length-le xs h)
+
+  -- ids that climb, from the id last met
+  pub ids-more : (n : ℕ) → i < length xs → n < getD xs i 0
+      → after (λ x. true) ltb (getD xs i 0) (drop (i + 1) xs) ≡ after (λ x. true) ltb n (drop i xs)
+  unfolding after
+  ids-more n h e = rw (left h, lt-ltb n (getD xs i 0) e)
+
+  pub ids-stop : (n : ℕ) → i < length xs → getD xs i 0 ≤ n → after (λ x. true) ltb n (drop i xs) ≡ false
+  unfolding after
+  ids-stop n h e = rw (left h, le-ltb n (getD xs i 0) e)
+
+  pub ids-end : (n : ℕ) → length xs ≤ i → after (λ x. true) ltb n (drop i xs) ≡ true
+  unfolding after
+  ids-end n h = rw (drop-of-length-le xs h)
+
+pub ids-none : (xs : List ℕ) → length xs ≡ 0 → climbs ltb xs ≡ true
+unfolding inRow
+ids-none [] h = refl
+ids-none (x ∷ xs) h = absurd (omega arith)
+
+pub ids-first : (xs : List ℕ) → 0 < length xs → after (λ x. true) ltb (getD xs 0 0) (drop 1 xs) ≡ climbs ltb xs
+unfolding inRow
+ids-first [] h = absurd (omega arith)
+ids-first (x ∷ xs) h = refl
+
+-- ---- the rows of a part
+
+module _ (part : List ℕ) where
+  row-left : (k : ℕ) → k < length part / entryWords → drop k (rows part) ≡ tripAt part k ∷ drop (k + 1) (rows part)
+  row-left k h =
+      let here : getD (rows part) k (tripAt part k) ≡ tripAt part k = getD-rows part k (tripAt part k) h in
+      drop-cons (rows part) k (tripAt part k) (rw length-rows h) ∙ rw (here, add-one)
+
+  row-none : (k : ℕ) → length part / entryWords ≤ k → drop k (rows part) ≡ []
+  row-none k h = drop-of-length-le (rows part) {i = k} (rw length-rows h)
+
+  module _ (p : Trip → Bool) (k : ℕ) where
+    pub each-more : k < length part / entryWords → p (tripAt part k) ≡ true → each p (drop (k + 1) (rows part)) ≡ each p (drop k (rows part))
+    unfolding each
+    each-more h e = rw (row-left k h, e)
+
+    pub each-stop : k < length part / entryWords → p (tripAt part k) ≡ false → each p (drop k (rows part)) ≡ false
+    unfolding each
+    each-stop h e = rw (row-left k h, e)
+
+    pub each-end : length part / entryWords ≤ k → each p (drop k (rows part)) ≡ true
+    unfolding each
+    each-end h = rw (row-none k h)
+
+  module _ (p : Trip → Bool) (lt : Trip → Trip → Bool) where
+    pub row-empty : length part / entryWords ≡ 0 → inRow p lt (rows part) ≡ true
+    unfolding inRow
+    row-empty h = let e : rows part ≡ [] = row-none 0 (omega arith) in rw e
+
+    pub row-first : 0 < length part / entryWords → p (tripAt part 0) ≡ true → after p lt (tripAt part 0) (drop 1 (rows part)) ≡ inRow p lt (rows part)
+    unfolding inRow
+    row-first h e = let l : rows part ≡ tripAt part 0 ∷ drop (0 + 1) (rows part) = row-left 0 h in rw (l, e)
+
+    pub row-fails : 0 < length part / entryWords → p (tripAt part 0) ≡ false → inRow p lt (rows part) ≡ false
+    unfolding inRow
+    row-fails h e = let l : rows part ≡ tripAt part 0 ∷ drop (0 + 1) (rows part) = row-left 0 h in rw (l, e)
+
+    module _ (x : Trip) (k : ℕ) where
+      pub row-more : k < length part / entryWords → p (tripAt part k) && lt x (tripAt part k) ≡ true
+          → after p lt (tripAt part k) (drop (k + 1) (rows part)) ≡ after p lt x (drop k (rows part))
+      unfolding after
+      row-more h e = rw (row-left k h, e)
+
+      pub row-stop : k < length part / entryWords → p (tripAt part k) && lt x (tripAt part k) ≡ false → after p lt x (drop k (rows part)) ≡ false
+      unfolding after
+      row-stop h e = rw (row-left k h, e)
+
+      pub row-end : length part / entryWords ≤ k → after p lt x (drop k (rows part)) ≡ true
+      unfolding after
+      row-end h = rw (row-none k h)
+
+  module _ (f : Trip → ℕ) (k : ℕ) where
+    pub sum-more : k < length part / entryWords → sumOver f (drop k (rows part)) ≡ f (tripAt part k) + sumOver f (drop (k + 1) (rows part))
+    unfolding sumOver
+    sum-more h = rw (row-left k h)
+
+    pub sum-end : length part / entryWords ≤ k → sumOver f (drop k (rows part)) ≡ 0
+    unfolding sumOver
+    sum-end h = rw (row-none k h)
+
+-- ---- numbers
+
+module _ (f : ℕ → Bool) where
+  pub below-start : below f 0 ≡ true
+  unfolding below
+  below-start = refl
+
+  pub below-more : (k : ℕ) → below f k ≡ true → f k ≡ true → below f (k + 1) ≡ true
+  unfolding below
+  below-more k e q = rw (add-one, e, q)
+
+  pub below-stop : (n k : ℕ) → k < n → f k ≡ false → below f n ≡ false
+  unfolding below
+  below-stop zero k h q = absurd (omega arith)
+  below-stop (suc n) k h q = go (decLt k n) (below-stop n k)
+    where
+      go : Dec (k < n) → (k < n → f k ≡ false → below f n ≡ false) → below f n && f n ≡ false
+      go (yes l) ih = rw (ih l q)
+      go (no l) ih = let e : k ≡ n = omega arith in rw (← e, q) (and-false (below f k))

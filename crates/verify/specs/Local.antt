@@ -1,0 +1,116 @@
+-- The local conditions on words: tests that lay nothing out anew, and that pass exactly where `isIndex` does (the law `locally-index`).
+use mathlib.Core.Bool.{Bool, true, false, cond, not, _&&_}
+use mathlib.Core.List.{List}
+use Prim.Native.Nat.{ℕ, zero, suc, _+_, _-_, _*_, _/_, _%_, _≤_, _<_}
+use lib.Dec.{leb, ltb, eqb}
+use lib.ListN.{length, getD, take, drop}
+use Rattle.lists.specs.Lists.{ascending}
+use Rattle.lists.proofs.Sums.{sumOver}
+use Rattle.ruler.specs.Ruler.{Scale, mostTrips, sameTime, noLater, cellUp}
+use Rattle.trip.specs.declared.Trip.{Trip}
+use Rattle.layout.specs.declared.Half.{Half}
+use Rattle.layout.specs.declared.Half.the-variants.{Originals, Replicas}
+use Rattle.layout.specs.declared.Subdivision.{Subdivision}
+use Rattle.layout.specs.Stored.{within, isIn, belongs, subdivisionOf}
+use Rattle.layout.specs.Words.{entryWords, rows, order, levelOf, placeOf, slotNumber}
+use Rattle.layout.specs.Refusals.{partitionsHolding}
+use Rattle.store.specs.Entries.{ids}
+use Rattle.verify.specs.Passing.{below, each, some, inRow, climbs, rising, blank}
+
+-- ---- the words of one half
+
+-- the last word of a half: as many entries as it has
+unfoldable pub total : (directory : List ℕ) → ℕ
+total dir = getD dir (length dir - 1) 0
+
+-- the counts start at 0, never fall and fit the arena, and the words after the last entry are 0
+unfoldable pub halfOk : (directory arena : List ℕ) → Bool
+halfOk dir arena =
+    eqb (getD dir 0 0) 0
+    && (rising (getD dir 0 0) (drop 1 dir)
+    && (leb (entryWords * total dir) (length arena)
+    && blank (drop (entryWords * total dir) arena)))
+
+-- the words of slot k; and the trips of that slot, and of all slots
+unfoldable pub slotWords : (directory arena : List ℕ) → (k : ℕ) → List ℕ
+slotWords dir arena k = take (entryWords * getD dir (k + 1) 0 - entryWords * getD dir k 0) (drop (entryWords * getD dir k 0) arena)
+
+-- what a reader of slot k shows first: the slot is one of the half's, and its words are in the arena
+pub record SlotIn (directory arena : List ℕ) (k : ℕ) : Type 0 where
+  pub inside : k + 1 < length directory
+  pub low : getD directory k 0 ≤ getD directory (k + 1) 0
+  pub high : entryWords * getD directory (k + 1) 0 ≤ length arena
+
+unfoldable pub slotAt : (directory arena : List ℕ) → (k : ℕ) → List Trip
+slotAt dir arena k = rows (slotWords dir arena k)
+
+unfoldable pub tripsOf : (directory arena : List ℕ) → List Trip
+tripsOf dir arena = rows (take (entryWords * total dir) arena)
+
+-- ---- the entries of a slot
+
+-- the trip passes tests 4 and 5
+unfoldable pub fitsTest : Scale → Trip → Bool
+fitsTest s t = s .has (t .start) && (s .has (t .end) && noLater (t .start) (t .end))
+
+-- it may stand in this subdivision of partition i of level L
+unfoldable pub standsAt : Scale → Subdivision → (L i : ℕ) → Trip → Bool
+standsAt s d L i t = fitsTest s t && belongs s d L i t
+
+-- the trips of the half's slot k stand there, in their order
+unfoldable pub slotOk : Scale → Half → (k : ℕ) → List Trip → Bool
+slotOk s h k l =
+    let d = subdivisionOf h (eqb (k % 2) 1) in
+    inRow (standsAt s d (levelOf (s .m) (k / 2)) (placeOf (s .m) (k / 2))) (order d) l
+
+unfoldable pub slotsOk : Scale → Half → (directory arena : List ℕ) → Bool
+slotsOk s h dir arena = below (λ k. slotOk s h k (slotAt dir arena k)) (length dir - 1)
+
+-- ---- a replica's original
+
+-- the level of the original entry, of the levels 0 .. L: the highest on which the partition of the first cell lies in a..b
+unfoldable pub homeLevel : (m a b L : ℕ) → ℕ
+homeLevel m a b zero = zero
+homeLevel m a b (suc L) = cond (within m L (cellUp m L a) a b) (homeLevel m a b L) (suc L)
+
+-- its slot, where it is at level L; and its slot
+unfoldable pub homeAt : Scale → (L : ℕ) → Trip → ℕ
+homeAt s L t = let i = cellUp (s .m) L (s .cell (t .start)) in slotNumber L i (not (isIn s L i t))
+
+unfoldable pub home : Scale → Trip → ℕ
+home s t = homeAt s (homeLevel (s .m) (s .cell (t .start)) (s .cell (t .end)) (s .m)) t
+
+unfoldable pub sameTrip : Trip → Trip → Bool
+sameTrip t u = eqb (t .id) (u .id) && (sameTime (t .start) (u .start) && sameTime (t .end) (u .end))
+
+-- the original of a replica stands in its slot
+unfoldable pub isKnown : Scale → (directory originals : List ℕ) → Trip → Bool
+isKnown s dir arena t = fitsTest s t && some (sameTrip t) (slotAt dir arena (home s t))
+
+-- ---- all
+
+-- no id stands twice: in ascending order they climb
+unfoldable pub idsDiffer : List Trip → Bool
+idsDiffer ts = climbs ltb (ascending (ids ts))
+
+-- n is the number of partitions that hold the trips
+unfoldable pub countsTo : Scale → (n : ℕ) → List Trip → Bool
+countsTo s n ts = each (fitsTest s) ts && eqb n (sumOver (partitionsHolding s) ts)
+
+-- the tests over the words of both halves, over their slots, and over all trips; o and r are the halves of the directory
+unfoldable pub halvesOk : (o originals r replicas : List ℕ) → Bool
+halvesOk o originals r replicas = halfOk o originals && halfOk r replicas
+
+unfoldable pub allSlotsOk : Scale → (o originals r replicas : List ℕ) → Bool
+allSlotsOk s o originals r replicas =
+    leb (total o) mostTrips && (slotsOk s Originals o originals && slotsOk s Replicas r replicas)
+
+unfoldable pub tripsOk : Scale → (o originals r replicas : List ℕ) → Bool
+tripsOk s o originals r replicas =
+    idsDiffer (tripsOf o originals)
+    && (each (isKnown s o originals) (tripsOf r replicas)
+    && countsTo s (total o + total r) (tripsOf o originals))
+
+unfoldable pub locally : Scale → (o originals r replicas : List ℕ) → Bool
+locally s o originals r replicas =
+    halvesOk o originals r replicas && (allSlotsOk s o originals r replicas && tripsOk s o originals r replicas)

@@ -1,0 +1,161 @@
+// One half of the directory with its arena: its counts, its tail, and the entries of its slots.
+use crate::partition::level_of;
+use crate::partition::stands;
+use crate::partition::subdivision_of;
+use layout::ENTRY_WORDS;
+use layout::Half;
+use layout::Subdivision;
+use ruler::Ruler;
+use ruler::power;
+use store::entry::precedes;
+use store::entry::trip_at;
+ghost use mathlib.Core.Path.{_≡_};
+ghost use mathlib.Core.Bool.{true};
+ghost use Prim.Native.Nat.{_+_, _*_, _^_, _<_, _≤_};
+ghost use lib.ListN.{length, getD, drop};
+ghost use Rattle.ruler.specs.Ruler.{inBounds, scale};
+ghost use Rattle.layout.specs.Words.{entryWords, rows, order, partitions, halfLength};
+ghost use Rattle.verify.specs.Passing.{inRow, rising, blank};
+ghost use Rattle.verify.specs.Local.{total, halfOk, SlotIn, slotAt, standsAt, slotOk, slotsOk};
+
+pub fn wide(word: u32) -> usize
+    ensures { λ r. ⌜ r ≡ word ⌝ }
+{
+    word as usize
+}
+
+// The last word of a half: as many entries as it has.
+pub fn entries_of(dir: &[u32]) -> usize
+    requires { ⌜ 0 < length (now dir) ⌝ }
+    ensures { λ r. ⌜ r ≡ total (now (dir .entry)) ⌝ }
+{
+    wide(dir[dir.len() - 1])
+}
+
+// The words that the entries of a half take.
+pub fn words_of(dir: &[u32]) -> usize
+    requires { ⌜ 0 < length (now dir) ⌝ }
+    ensures { λ r. ⌜ r ≡ entryWords * total (now (dir .entry)) ⌝ }
+{
+    offset(dir, dir.len() - 1)
+}
+
+// Whether no word is below the one before it.
+fn rises(dir: &[u32]) -> bool
+    requires { ⌜ 0 < length (now dir) ⌝ }
+    ensures { λ r. ⌜ r ≡ rising (getD (now (dir .entry)) 0 0) (drop 1 (now (dir .entry))) ⌝ }
+{
+    let mut last = dir[0];
+    let mut i: usize = 1;
+    while i < dir.len() {
+        let word = dir[i];
+        if word < last {
+            return false;
+        }
+        last = word;
+        i += 1;
+    }
+    true
+}
+
+// Whether every word from index at on is zero.
+fn blank_from(arena: &[u32], at: usize) -> bool
+    ensures { λ r. ⌜ r ≡ blank (drop at (now (arena .entry))) ⌝ }
+{
+    let mut i = at;
+    while i < arena.len() {
+        if arena[i] != 0 {
+            return false;
+        }
+        i += 1;
+    }
+    true
+}
+
+// Whether the counts start at 0, never fall and fit the arena, and the words after the last entry are 0.
+pub fn half_ok(dir: &[u32], arena: &[u32]) -> bool
+    requires { ⌜ 0 < length (now dir) ⌝ }
+    ensures { λ r. ⌜ r ≡ halfOk (now (dir .entry)) (now (arena .entry)) ⌝ }
+{
+    let used = words_of(dir);
+    let first = dir[0];
+    let up = rises(dir);
+    let tail = blank_from(arena, used);
+    (first == 0) & (up & ((used <= arena.len()) & tail))
+}
+
+// The word of the arena at which slot k begins.
+pub fn offset(dir: &[u32], k: usize) -> usize
+    requires { ⌜ k < length (now dir) ⌝ }
+    ensures { λ r. ⌜ r ≡ entryWords * getD (now (dir .entry)) k 0 ⌝ }
+{
+    ENTRY_WORDS * wide(dir[k])
+}
+
+// Whether each entry of a part may stand in this subdivision of partition i of a level, and comes after the one before it.
+fn in_row(ruler: Ruler, d: Subdivision, level: u32, i: u32, part: &[u32]) -> bool
+    requires { ⌜ inBounds (ruler .numbers) ≡ true ⌝ }
+    requires { ⌜ (level ≤ scale ruler .m) × (i < 2 ^ level) ⌝ }
+    ensures { λ r. ⌜ r ≡ inRow (standsAt (scale ruler) d level i) (order d) (rows (now (part .entry))) ⌝ }
+{
+    let n = part.len() / ENTRY_WORDS;
+    if n == 0 {
+        return true;
+    }
+    let mut last = trip_at(part, 0);
+    if !stands(ruler, d, level, i, last) {
+        return false;
+    }
+    let mut k: usize = 1;
+    while k < n {
+        let t = trip_at(part, k);
+        if !(stands(ruler, d, level, i, t) & precedes(d, last, t)) {
+            return false;
+        }
+        last = t;
+        k += 1;
+    }
+    true
+}
+
+// Whether the entries of a part may stand in slot k of a half, in their order.
+fn slot_ok(ruler: Ruler, half: Half, k: usize, part: &[u32]) -> bool
+    requires { ⌜ inBounds (ruler .numbers) ≡ true ⌝ }
+    requires { ⌜ k < 2 * partitions (scale ruler .m) ⌝ }
+    ensures { λ r. ⌜ r ≡ slotOk (scale ruler) half k (rows (now (part .entry))) ⌝ }
+{
+    let p = (k / 2) as u32;
+    let level = level_of(ruler.bottom(), p);
+    let first = power(level) - 1;
+    let d = subdivision_of(half, k % 2 == 1);
+    in_row(ruler, d, level, p - first, part)
+}
+
+// Whether slot k of a half is as it should be.
+fn slot_at(ruler: Ruler, half: Half, dir: &[u32], arena: &[u32], k: usize) -> bool
+    requires { ⌜ inBounds (ruler .numbers) ≡ true ⌝ }
+    requires { ⌜ (k < 2 * partitions (scale ruler .m)) × SlotIn (now dir) (now arena) k ⌝ }
+    ensures { λ r. ⌜ r ≡ slotOk (scale ruler) half k (slotAt (now (dir .entry)) (now (arena .entry)) k) ⌝ }
+{
+    let from = offset(dir, k);
+    let to = offset(dir, k + 1);
+    slot_ok(ruler, half, k, &arena[from..to])
+}
+
+// Whether every slot of a half is.
+pub fn slots_ok(ruler: Ruler, half: Half, dir: &[u32], arena: &[u32]) -> bool
+    requires { ⌜ inBounds (ruler .numbers) ≡ true ⌝ }
+    requires { ⌜ length (now dir) ≡ halfLength (scale ruler .m) ⌝ }
+    requires { ⌜ halfOk (now dir) (now arena) ≡ true ⌝ }
+    ensures { λ r. ⌜ r ≡ slotsOk (scale ruler) half (now (dir .entry)) (now (arena .entry)) ⌝ }
+{
+    let n = dir.len() - 1;
+    let mut k: usize = 0;
+    while k < n {
+        if !slot_at(ruler, half, dir, arena, k) {
+            return false;
+        }
+        k += 1;
+    }
+    true
+}

@@ -1,0 +1,142 @@
+// A replica's original: the slot where it has to stand, and a search for it there.
+use crate::half::offset;
+use crate::partition::bottom_cell;
+use crate::partition::cell_at;
+use crate::partition::fits;
+use crate::partition::lies_in;
+use layout::ENTRY_WORDS;
+use layout::Subdivision;
+use ruler::Ruler;
+use ruler::power;
+use store::entry::precedes;
+use store::entry::trip_at;
+use trip::Trip;
+ghost use mathlib.Core.Path.{_≡_};
+ghost use mathlib.Core.Bool.{true};
+ghost use Prim.Native.Nat.{_*_, _^_, _<_, _≤_};
+ghost use lib.ListN.{length};
+ghost use Rattle.ruler.specs.Ruler.{deepest, inBounds, scale};
+ghost use Rattle.layout.specs.declared.Half.the-variants.{Originals};
+ghost use Rattle.layout.specs.declared.Subdivision.the-variants.{OIn};
+ghost use Rattle.layout.specs.Words.{rows, order, halfLength, slotNumber};
+ghost use Rattle.verify.specs.Passing.{each, some, climbs};
+ghost use Rattle.verify.specs.Local.{fitsTest, halfOk, SlotIn, slotAt, slotsOk, homeLevel, home, sameTrip, isKnown};
+
+// The level of the original entry of a trip with the level-m cells a..b.
+fn home_level(m: u32, a: u32, b: u32) -> u32
+    requires { ⌜ (m ≤ deepest) × (a < 2 ^ m) ⌝ }
+    ensures { λ r. ⌜ r ≡ homeLevel m a b m ⌝ }
+{
+    let mut level = m;
+    while 0 < level {
+        let above = level - 1;
+        if !lies_in(m, above, a >> (m - above), a, b) {
+            return level;
+        }
+        level = above;
+    }
+    0
+}
+
+// The "in" or the "aft" slot of partition i of a level.
+fn slot_number(level: u32, i: u32, aft: bool) -> usize
+    requires { ⌜ (level ≤ deepest) × (i < 2 ^ level) ⌝ }
+    ensures { λ r. ⌜ r ≡ slotNumber level i aft ⌝ }
+{
+    let p = (power(level) - 1 + i) as usize;
+    if aft {
+        return 2 * p + 1;
+    }
+    2 * p
+}
+
+// The slot of the original entry.
+fn home(ruler: Ruler, t: Trip) -> usize
+    requires { ⌜ inBounds (ruler .numbers) ≡ true ⌝ }
+    requires { ⌜ fitsTest (scale ruler) t ≡ true ⌝ }
+    ensures { λ r. ⌜ r ≡ home (scale ruler) t ⌝ }
+{
+    let start = t.start;
+    let end = t.end;
+    let level = home_level(
+        ruler.bottom(),
+        bottom_cell(ruler, start),
+        bottom_cell(ruler, end),
+    );
+    let i = cell_at(ruler, level, start);
+    let ends = cell_at(ruler, level, end) == i;
+    slot_number(level, i, !ends)
+}
+
+// Whether two trips have the same words.
+fn same_trip(t: Trip, u: Trip) -> bool
+    ensures { λ r. ⌜ r ≡ sameTrip t u ⌝ }
+{
+    let start = t.start;
+    let end = t.end;
+    (t.id == u.id) & (start.same(u.start) & end.same(u.end))
+}
+
+// Whether the trip is one of a part that is in the order of originals: by halving.
+fn has_trip(part: &[u32], t: Trip) -> bool
+    requires { ⌜ climbs (order OIn) (rows (now part)) ≡ true ⌝ }
+    ensures { λ r. ⌜ r ≡ some (sameTrip t) (rows (now (part .entry))) ⌝ }
+{
+    let n = part.len() / ENTRY_WORDS;
+    let mut lo: usize = 0;
+    let mut hi = n;
+    while lo < hi {
+        let mid = lo + (hi - lo) / 2;
+        if precedes(Subdivision::OIn, trip_at(part, mid), t) {
+            lo = mid + 1;
+        } else {
+            hi = mid;
+        }
+    }
+    if lo < n {
+        return same_trip(t, trip_at(part, lo));
+    }
+    false
+}
+
+// Whether the trip stands in slot k, which is in the order of originals.
+fn slot_has(dir: &[u32], originals: &[u32], k: usize, t: Trip) -> bool
+    requires { ⌜ SlotIn (now dir) (now originals) k ⌝ }
+    requires { ⌜ climbs (order OIn) (slotAt (now dir) (now originals) k) ≡ true ⌝ }
+    ensures { λ r. ⌜ r ≡ some (sameTrip t) (slotAt (now (dir .entry)) (now (originals .entry)) k) ⌝ }
+{
+    let from = offset(dir, k);
+    let to = offset(dir, k + 1);
+    has_trip(&originals[from..to], t)
+}
+
+// Whether the original of a trip stands in its slot.
+fn is_known(ruler: Ruler, dir: &[u32], originals: &[u32], t: Trip) -> bool
+    requires { ⌜ inBounds (ruler .numbers) ≡ true ⌝ }
+    requires { ⌜ length (now dir) ≡ halfLength (scale ruler .m) ⌝ }
+    requires { ⌜ (halfOk (now dir) (now originals) ≡ true) × (slotsOk (scale ruler) Originals (now dir) (now originals) ≡ true) ⌝ }
+    ensures { λ r. ⌜ r ≡ isKnown (scale ruler) (now (dir .entry)) (now (originals .entry)) t ⌝ }
+{
+    if !fits(ruler, t) {
+        return false;
+    }
+    slot_has(dir, originals, home(ruler, t), t)
+}
+
+// Whether the original of each trip of a part stands in its slot.
+pub fn all_known(ruler: Ruler, dir: &[u32], originals: &[u32], part: &[u32]) -> bool
+    requires { ⌜ inBounds (ruler .numbers) ≡ true ⌝ }
+    requires { ⌜ length (now dir) ≡ halfLength (scale ruler .m) ⌝ }
+    requires { ⌜ (halfOk (now dir) (now originals) ≡ true) × (slotsOk (scale ruler) Originals (now dir) (now originals) ≡ true) ⌝ }
+    ensures { λ r. ⌜ r ≡ each (isKnown (scale ruler) (now (dir .entry)) (now (originals .entry))) (rows (now (part .entry))) ⌝ }
+{
+    let n = part.len() / ENTRY_WORDS;
+    let mut k: usize = 0;
+    while k < n {
+        if !is_known(ruler, dir, originals, trip_at(part, k)) {
+            return false;
+        }
+        k += 1;
+    }
+    true
+}
