@@ -3,3 +3,7 @@ pub mod OneSlot
 pub mod Grown
 pub mod Shrunk
 pub mod Spotted
+pub mod Reading
+pub mod Lent
+pub mod Chained
+pub mod Removed

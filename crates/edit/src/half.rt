@@ -19,7 +19,7 @@ ghost use Rattle.store.specs.Places.{mostSlots};
 ghost use Rattle.edit.specs.Halves.{HalfOf, Adding, Removing};
 
 // Writes the slots of a half in which a trip has its entries, and says how many.
-fn spots_of(ruler: Ruler, half: Half, t: Trip, spots: &mut [u32]) -> usize
+pub fn spots_of(ruler: Ruler, half: Half, t: Trip, spots: &mut [u32]) -> usize
     requires { ⌜ inBounds (ruler .numbers) ≡ true ⌝ }
     requires { ⌜ (scale ruler .cell (t .start) < 2 ^ scale ruler .m) × (scale ruler .cell (t .end) < 2 ^ scale ruler .m) × (mostSlots ≤ length (now spots)) ⌝ }
     ensures { λ r. ⌜ (r ≡ length (slotsOfTrip (scale ruler) half t)) × (now (spots .exit) ≡ over (slotsOfTrip (scale ruler) half t) (now (spots .entry))) ⌝ }
