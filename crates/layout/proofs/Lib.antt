@@ -28,3 +28,5 @@ pub mod LevelWalk
 pub mod RulerCells
 pub mod Lent
 pub mod Links
+pub mod SlotEdits
+pub mod RoomAdded

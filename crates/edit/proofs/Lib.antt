@@ -1,0 +1,9 @@
+pub mod Halfway
+pub mod OneSlot
+pub mod Grown
+pub mod Shrunk
+pub mod Spotted
+pub mod Reading
+pub mod Lent
+pub mod Chained
+pub mod Removed

@@ -1,0 +1,99 @@
+-- The part between the two words of the directory has the slot's rows, which are in order.
+use Rattle.layout.specs.Words.{entryWords}
+use Rattle.edit.proofs.OneSlot.{PartWords, part-words, part-ordered, part-place}
+use native.Mathlib.Omega.{arith}
+use borrow.Author.Needs.{needs}
+use Rattle.edit.proofs.one_slot.place_in.Statement.{statement}
+use Rattle.edit.proofs.one_slot.place_in.Tie as tie
+
+-- what the requires says of the words
+in-words : (s : tie.Start) → PartWords (s .args .dir .now) (s .args .arena .now) (s .args .slot)
+in-words s = part-words (s .args .dir .now) (s .args .arena .now) (s .pre .0) (s .args .half) (s .args .slot) (s .pre .1)
+
+mul-first : tie.Need-mul-first
+unfolding entryWords
+mul-first c = omega (arith, in-words (c .before .before))
+
+shared-slice-read-first : tie.Need-shared-slice-read-first
+unfolding entryWords
+shared-slice-read-first c = omega (arith, in-words (c .before .before .before))
+
+cast-first : tie.Need-cast-first
+unfolding entryWords
+cast-first c = omega (arith, in-words (c .before .before .before))
+
+mul-first-2 : tie.Need-mul-first-2
+unfolding entryWords
+mul-first-2 c = omega (arith, in-words (c .before .before .before))
+
+add-end : tie.Need-add-end
+unfolding entryWords
+add-end c = omega (arith, in-words (c .before .before .before))
+
+mul-end : tie.Need-mul-end
+unfolding entryWords
+mul-end c = omega (arith, in-words (c .before .before .before))
+
+shared-slice-read-end : tie.Need-shared-slice-read-end
+unfolding entryWords
+shared-slice-read-end c = omega (arith, in-words (c .before .before .before .before))
+
+cast-end : tie.Need-cast-end
+unfolding entryWords
+cast-end c = omega (arith, in-words (c .before .before .before .before))
+
+mul-end-2 : tie.Need-mul-end-2
+unfolding entryWords
+mul-end-2 c = omega (arith, in-words (c .before .before .before .before))
+
+mul-find-place : tie.Need-mul-find-place
+unfolding entryWords
+mul-find-place c = omega (arith, in-words (c .before .before .before .before))
+
+sub-find-place : tie.Need-sub-find-place
+unfolding entryWords
+sub-find-place c = omega (arith, in-words (c .before .before .before .before))
+
+part-find-place-start : tie.Need-part-find-place-start
+unfolding entryWords
+part-find-place-start c = omega (arith, in-words (c .before .before .before .before))
+
+part-find-place-end : tie.Need-part-find-place-end
+unfolding entryWords
+part-find-place-end c = omega (arith, in-words (c .before .before .before .before))
+
+subdivision-at-requires : tie.Need-subdivision-at-requires
+subdivision-at-requires c κs = search needs
+
+find-place-requires : tie.Need-find-place-requires
+unfolding entryWords
+find-place-requires c κs =
+    let s = c .before .before .before .before .before .before in
+    part-ordered (s .args .dir .now) (s .args .arena .now) (s .pre .0) (s .args .half) (s .args .slot) (s .pre .1) (c .subdivision-at .result) (c .subdivision-at .ensures)
+
+returns : tie.Need-returns
+unfolding entryWords
+returns c = λ ls o.
+    let a = c .before .before .before .before .before .before .before .args in
+    part-place (a .dir .now) (a .arena .now) ls (a .half) (a .slot) o (c .before .subdivision-at .result) (a .t) (c .find-place .result) (c .before .subdivision-at .ensures) (c .find-place .ensures)
+
+pub place-in-spec : {M : Type 1} → statement M
+place-in-spec =
+    tie.close
+    (tie.spec
+    mul-first
+    shared-slice-read-first
+    cast-first
+    mul-first-2
+    add-end
+    mul-end
+    shared-slice-read-end
+    cast-end
+    mul-end-2
+    mul-find-place
+    sub-find-place
+    part-find-place-start
+    part-find-place-end
+    subdivision-at-requires
+    find-place-requires
+    returns)

@@ -1,0 +1,130 @@
+-- The place that the search gives is that of the id among the trips; the trip there is taken out.
+use mathlib.Core.Path.{sym, ap, _∙_}
+use Prim.Native.Nat.{ℕ, _-_, _*_}
+use lib.ListN.{take}
+use Rattle.ruler.specs.Ruler.{scale}
+use Rattle.layout.specs.Words.{entryWords, rows, directoryLength, lengthsOf, layout}
+use Rattle.layout.specs.Refusals.{tableOf}
+use Rattle.layout.specs.Calls.{index, without}
+use Rattle.layout.proofs.Checked.{checked}
+use Rattle.edit.specs.Search.{placeOfId}
+use Rattle.edit.proofs.Reading.{Shown, shown}
+use Rattle.edit.proofs.Chained.{remove-accepted}
+use Rattle.edit.proofs.Removed.{found, not-found}
+use native.Mathlib.Omega.{arith}
+use borrow.Author.Needs.{needs}
+use Rattle.edit.proofs.remove_checked.Statement.{statement}
+use Rattle.edit.proofs.remove_checked.Tie as tie
+
+-- what the requires says of the words
+in-index : (s : tie.Start) → Shown (scale (s .args .ruler)) (index (s .args .directory .now) (s .args .originals .now) (s .args .replicas .now))
+in-index s = shown _ _ (checked _ _ (s .pre .1))
+
+sub-trips : tie.Need-sub-trips
+unfolding directoryLength
+sub-trips c = omega (arith, in-index (c .before .before .before))
+
+mul-trips : tie.Need-mul-trips
+mul-trips c = search needs
+
+slice-read-trips : tie.Need-slice-read-trips
+unfolding directoryLength
+slice-read-trips c = omega (arith, in-index (c .before .before .before .before))
+
+cast-trips : tie.Need-cast-trips
+unfolding directoryLength
+cast-trips c = omega (arith, in-index (c .before .before .before .before))
+
+mul-used : tie.Need-mul-used
+unfolding directoryLength
+mul-used c = omega (arith, in-index (c .before .before .before .before))
+
+sub-find-id : tie.Need-sub-find-id
+sub-find-id c = search needs
+
+part-find-id-start : tie.Need-part-find-id-start
+part-find-id-start c = search needs
+
+part-find-id-end : tie.Need-part-find-id-end
+unfolding entryWords
+part-find-id-end c = omega (arith, in-index (c .before .before .before .before .before))
+
+find-id-requires : tie.Need-find-id-requires
+find-id-requires c κs = search needs
+
+refused-requires : tie.Need-refused-requires
+refused-requires c κs = search needs
+
+same-length : tie.Need-same-length
+same-length c = search needs
+
+returns : tie.Need-returns
+unfolding entryWords
+returns c =
+    let g = c .before .before .before .before .before .before .before .before .before in
+    let s = scale (g .args .ruler) in
+    let x = index (g .args .directory .now) (g .args .originals .now) (g .args .replicas .now) in
+    let w = in-index g in
+    let read = ap (λ (k : ℕ). rows (take (entryWords * k - 0) (x .originals))) (w .trips) ∙ w .listed in
+    let place = c .before .before .find-id .ensures ∙ ap (placeOfId (g .args .id)) read in
+    not-found s x (g .args .id) _ (g .pre .1) w place _ (omega (arith, w .trips, c .before .if1 .taken)) (c .refused .ensures)
+
+trip-at-requires : tie.Need-trip-at-requires
+unfolding entryWords
+trip-at-requires c κs = omega (arith, in-index (c .before .before .before .before .before .before .before .before .before), c .before .if1 .left)
+
+take-out-requires : tie.Need-take-out-requires
+unfolding entryWords
+take-out-requires c κs =
+    let g = c .before .before .before .before .before .before .before .before .before .before .before .before .before in
+    let s = scale (g .args .ruler) in
+    let x = index (g .args .directory .now) (g .args .originals .now) (g .args .replicas .now) in
+    let w = in-index g in
+    let read = ap (λ (k : ℕ). rows (take (entryWords * k - 0) (x .originals))) (w .trips) ∙ w .listed in
+    let place = c .before .before .before .before .before .before .find-id .ensures ∙ ap (placeOfId (g .args .id)) read in
+    let f = found s x (g .args .id) _ (g .pre .1) w place (c .before .before .before .trip-at .result) (omega (arith, w .trips, c .before .before .before .before .before .if1 .left)) (c .before .before .before .trip-at .ensures) in
+    (g .pre .0, (rw (f .same) (f .accepted), f .member))
+
+same-length-2 : tie.Need-same-length-2
+same-length-2 c = search needs
+
+same-length-3 : tie.Need-same-length-3
+same-length-3 c = search needs
+
+same-length-4 : tie.Need-same-length-4
+same-length-4 c = search needs
+
+returns-2 : tie.Need-returns-2
+unfolding entryWords
+returns-2 c =
+    let g = c .before .before .before .before .before .before .before .before .before .before .before .before .before .before .before .before .before .before .before .before in
+    let s = scale (g .args .ruler) in
+    let x = index (g .args .directory .now) (g .args .originals .now) (g .args .replicas .now) in
+    let w = in-index g in
+    let read = ap (λ (k : ℕ). rows (take (entryWords * k - 0) (x .originals))) (w .trips) ∙ w .listed in
+    let place = c .before .before .before .before .before .before .before .before .before .before .before .before .before .find-id .ensures ∙ ap (placeOfId (g .args .id)) read in
+    let f = found s x (g .args .id) _ (g .pre .1) w place (c .before .before .before .before .before .before .before .before .before .before .trip-at .result) (omega (arith, w .trips, c .before .before .before .before .before .before .before .before .before .before .before .before .if1 .left)) (c .before .before .before .before .before .before .before .before .before .before .trip-at .ensures) in
+    remove-accepted s x _ (g .args .id) (f .accepted) (c .before .before .before .before .before .before .take-out .ensures ∙ ap (λ (k : ℕ). layout s (without k (tableOf s x)) (lengthsOf x)) (f .same))
+
+pub remove-checked-spec : {M : Type 1} → statement M
+remove-checked-spec =
+    tie.close
+    (tie.spec
+    sub-trips
+    mul-trips
+    slice-read-trips
+    cast-trips
+    mul-used
+    sub-find-id
+    part-find-id-start
+    part-find-id-end
+    find-id-requires
+    refused-requires
+    same-length
+    returns
+    trip-at-requires
+    take-out-requires
+    same-length-2
+    same-length-3
+    same-length-4
+    returns-2)

@@ -1,0 +1,166 @@
+// Edits of an index: one trip added, or the trip of an id removed. An edit moves entries where they stand and builds nothing anew; what it
+// can refuse is asked before a word is written.
+use layout::ENTRY_WORDS;
+use layout::Half;
+use layout::Outcome;
+use layout::Refusal;
+use ruler::Judged;
+use ruler::Numbers;
+use ruler::Ruler;
+use store::entry;
+use tests::is_accepted;
+use tests::refused;
+use trip::Trip;
+ghost use mathlib.Core.Path.{_≡_};
+ghost use mathlib.Core.Bool.{true};
+ghost use mathlib.Core.List.{_∷_, List·Memᴰ};
+ghost use Prim.Native.Nat.{_*_, _≤_};
+ghost use lib.ListN.{length};
+ghost use Rattle.ruler.specs.Ruler.{inBounds, scaleOf, scale};
+ghost use Rattle.layout.specs.declared.Outcome.{Outcome};
+ghost use Rattle.layout.specs.Words.{entryWords, lengthsOf, layout};
+ghost use Rattle.layout.specs.Refusals.{tableOf, checkOutcome, addOutcome, removeOutcome};
+ghost use Rattle.layout.specs.Calls.{index, after, addOf, removeOf, without};
+
+mod half;
+mod one_slot;
+mod tests;
+
+// Writes an addition that is accepted: first the originals with their half of the directory, then the replicas.
+fn put_in(ruler: Ruler, directory: &mut [u32], originals: &mut [u32], replicas: &mut [u32], t: Trip)
+    requires { ⌜ inBounds (ruler .numbers) ≡ true ⌝ }
+    requires { ⌜ addOutcome (scale ruler) (index (now directory) (now originals) (now replicas)) t ≡ Outcome.Accepted ⌝ }
+    ensures { λ _. ⌜ index (now (directory .exit)) (now (originals .exit)) (now (replicas .exit)) ≡ layout (scale ruler) (t ∷ tableOf (scale ruler) (index (now (directory .entry)) (now (originals .entry)) (now (replicas .entry)))) (lengthsOf (index (now (directory .entry)) (now (originals .entry)) (now (replicas .entry)))) ⌝ }
+{
+    let n = directory.len();
+    let middle = n / 2;
+    half::add_half(
+        ruler,
+        Half::Originals,
+        &mut directory[0..middle],
+        originals,
+        t,
+    );
+    half::add_half(
+        ruler,
+        Half::Replicas,
+        &mut directory[middle..n],
+        replicas,
+        t,
+    );
+}
+
+// Writes a removal that is accepted, of a trip that the index has.
+fn take_out(
+    ruler: Ruler,
+    directory: &mut [u32],
+    originals: &mut [u32],
+    replicas: &mut [u32],
+    t: Trip,
+)
+    requires { ⌜ inBounds (ruler .numbers) ≡ true ⌝ }
+    requires { ⌜ removeOutcome (scale ruler) (index (now directory) (now originals) (now replicas)) (t .id) ≡ Outcome.Accepted ⌝ }
+    requires { ⌜ List·Memᴰ t (tableOf (scale ruler) (index (now directory) (now originals) (now replicas))) ⌝ }
+    ensures { λ _. ⌜ index (now (directory .exit)) (now (originals .exit)) (now (replicas .exit)) ≡ layout (scale ruler) (without (t .id) (tableOf (scale ruler) (index (now (directory .entry)) (now (originals .entry)) (now (replicas .entry))))) (lengthsOf (index (now (directory .entry)) (now (originals .entry)) (now (replicas .entry)))) ⌝ }
+{
+    let n = directory.len();
+    let middle = n / 2;
+    half::remove_half(
+        ruler,
+        Half::Originals,
+        &mut directory[0..middle],
+        originals,
+        t,
+    );
+    half::remove_half(
+        ruler,
+        Half::Replicas,
+        &mut directory[middle..n],
+        replicas,
+        t,
+    );
+}
+
+// An addition to words that are an index.
+fn add_checked(
+    ruler: Ruler,
+    directory: &mut [u32],
+    originals: &mut [u32],
+    replicas: &mut [u32],
+    t: Trip,
+) -> Outcome
+    requires { ⌜ inBounds (ruler .numbers) ≡ true ⌝ }
+    requires { ⌜ checkOutcome (scale ruler) (index (now directory) (now originals) (now replicas)) ≡ Outcome.Accepted ⌝ }
+    ensures { λ r. ⌜ after r (index (now (directory .exit)) (now (originals .exit)) (now (replicas .exit))) ≡ addOf (scale ruler) (index (now (directory .entry)) (now (originals .entry)) (now (replicas .entry))) t ⌝ }
+{
+    let outcome = tests::add_outcome(ruler, directory, originals, replicas, t);
+    if !is_accepted(outcome) {
+        return outcome;
+    }
+    put_in(ruler, directory, originals, replicas, t);
+    Outcome::Accepted
+}
+
+// A removal from words that are an index: the trip is looked for among the originals, of which each trip has one.
+fn remove_checked(
+    ruler: Ruler,
+    directory: &mut [u32],
+    originals: &mut [u32],
+    replicas: &mut [u32],
+    id: u32,
+) -> Outcome
+    requires { ⌜ inBounds (ruler .numbers) ≡ true ⌝ }
+    requires { ⌜ checkOutcome (scale ruler) (index (now directory) (now originals) (now replicas)) ≡ Outcome.Accepted ⌝ }
+    ensures { λ r. ⌜ after r (index (now (directory .exit)) (now (originals .exit)) (now (replicas .exit))) ≡ removeOf (scale ruler) (index (now (directory .entry)) (now (originals .entry)) (now (replicas .entry))) id ⌝ }
+{
+    let middle = directory.len() / 2;
+    let trips = directory[middle - 1] as usize;
+    let used = ENTRY_WORDS * trips;
+    let place = tests::find_id(&originals[0..used], id);
+    if trips <= place {
+        return refused(Refusal::NoSuchId);
+    }
+    let t = entry::trip_at(originals, place);
+    take_out(ruler, directory, originals, replicas, t);
+    Outcome::Accepted
+}
+
+// Adds a trip.
+pub fn add(
+    numbers: Numbers,
+    directory: &mut [u32],
+    originals: &mut [u32],
+    replicas: &mut [u32],
+    t: Trip,
+) -> Outcome
+    ensures { λ r. ⌜ after r (index (now (directory .exit)) (now (originals .exit)) (now (replicas .exit))) ≡ addOf (scaleOf numbers) (index (now (directory .entry)) (now (originals .entry)) (now (replicas .entry))) t ⌝ }
+{
+    let checked = verify::check(numbers, directory, originals, replicas);
+    if !is_accepted(checked) {
+        return checked;
+    }
+    let Judged::Good(ruler) = Ruler::new(numbers) else {
+        return refused(Refusal::RulerOutOfBounds);
+    };
+    add_checked(ruler, directory, originals, replicas, t)
+}
+
+// Removes the trip of an id.
+pub fn remove(
+    numbers: Numbers,
+    directory: &mut [u32],
+    originals: &mut [u32],
+    replicas: &mut [u32],
+    id: u32,
+) -> Outcome
+    ensures { λ r. ⌜ after r (index (now (directory .exit)) (now (originals .exit)) (now (replicas .exit))) ≡ removeOf (scaleOf numbers) (index (now (directory .entry)) (now (originals .entry)) (now (replicas .entry))) id ⌝ }
+{
+    let checked = verify::check(numbers, directory, originals, replicas);
+    if !is_accepted(checked) {
+        return checked;
+    }
+    let Judged::Good(ruler) = Ruler::new(numbers) else {
+        return refused(Refusal::RulerOutOfBounds);
+    };
+    remove_checked(ruler, directory, originals, replicas, id)
+}

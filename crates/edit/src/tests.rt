@@ -1,0 +1,139 @@
+// What an edit asks before it writes anything.
+use crate::half;
+use layout::ENTRY_WORDS;
+use layout::Half;
+use layout::MOST_PARTITIONS;
+use layout::Outcome;
+use layout::Refusal;
+use ruler::Ruler;
+use store::places;
+use trip::Trip;
+ghost use mathlib.Core.Path.{_≡_};
+ghost use mathlib.Core.Bool.{true};
+ghost use Prim.Native.Nat.{_+_, _*_, _^_, _<_, _≤_};
+ghost use lib.Dec.{ltb};
+ghost use lib.ListN.{length};
+ghost use Rattle.ruler.specs.Ruler.{inBounds, scale};
+ghost use Rattle.layout.specs.declared.Outcome.{Outcome};
+ghost use Rattle.layout.specs.Words.{entryWords, rows};
+ghost use Rattle.layout.specs.Refusals.{isAccepted, partitionsHolding, rowTests, checkOutcome, addOutcome};
+ghost use Rattle.layout.specs.Calls.{index};
+ghost use Rattle.layout.specs.Walk.{slotsOfTrip};
+ghost use Rattle.store.specs.Passes.{mostEntries};
+ghost use Rattle.edit.specs.Search.{placeOfId};
+
+pub fn is_accepted(outcome: Outcome) -> bool
+    ensures { λ r. ⌜ r ≡ isAccepted outcome ⌝ }
+{
+    match outcome {
+        Outcome::Accepted => true,
+        Outcome::Refused {
+            refusal: _,
+            detail: _,
+        } => false,
+    }
+}
+
+pub fn refused(refusal: Refusal) -> Outcome
+    ensures { λ r. ⌜ r ≡ Outcome.Refused refusal 0 ⌝ }
+{
+    Outcome::Refused { refusal, detail: 0 }
+}
+
+// The place of the trip of an id among the entries of a part, or their number where none has it.
+pub fn find_id(part: &[u32], id: u32) -> usize
+    ensures { λ r. ⌜ r ≡ placeOfId id (rows (now (part .entry))) ⌝ }
+{
+    let n = part.len() / ENTRY_WORDS;
+    let mut k: usize = 0;
+    while k < n {
+        if part[ENTRY_WORDS * k] == id {
+            return k;
+        }
+        k += 1;
+    }
+    k
+}
+
+// How many entries a trip has in a half.
+fn entries_of_trip(ruler: Ruler, half: Half, t: Trip) -> usize
+    requires { ⌜ inBounds (ruler .numbers) ≡ true ⌝ }
+    requires { ⌜ (scale ruler .cell (t .start) < 2 ^ scale ruler .m) × (scale ruler .cell (t .end) < 2 ^ scale ruler .m) ⌝ }
+    ensures { λ r. ⌜ (r ≡ length (slotsOfTrip (scale ruler) half t)) × (r ≤ 22) ⌝ }
+{
+    let mut spots = [0u32; places::MOST_SLOTS];
+    half::spots_of(ruler, half, t, &mut spots)
+}
+
+// How many partitions hold a trip: each has one entry of it, in one half or the other.
+fn partitions_of_trip(ruler: Ruler, t: Trip) -> usize
+    requires { ⌜ inBounds (ruler .numbers) ≡ true ⌝ }
+    requires { ⌜ (scale ruler .cell (t .start) < 2 ^ scale ruler .m) × (scale ruler .cell (t .end) < 2 ^ scale ruler .m) ⌝ }
+    ensures { λ r. ⌜ r ≡ partitionsHolding (scale ruler) t ⌝ }
+{
+    entries_of_trip(ruler, Half::Originals, t) + entries_of_trip(ruler, Half::Replicas, t)
+}
+
+// Whether an arena of so many words lacks room for `used` entries and those of the trip.
+fn lacks_room(ruler: Ruler, half: Half, used: usize, words: usize, t: Trip) -> bool
+    requires { ⌜ inBounds (ruler .numbers) ≡ true ⌝ }
+    requires { ⌜ (scale ruler .cell (t .start) < 2 ^ scale ruler .m) × (scale ruler .cell (t .end) < 2 ^ scale ruler .m) × (used ≤ mostEntries) ⌝ }
+    ensures { λ r. ⌜ r ≡ ltb words (entryWords * (used + length (slotsOfTrip (scale ruler) half t))) ⌝ }
+{
+    words < ENTRY_WORDS * (used + entries_of_trip(ruler, half, t))
+}
+
+// The tests 4, 5, 6 and 11 of a trip beside those that are there.
+fn trip_outcome(ruler: Ruler, there: &[u32], t: Trip) -> Outcome
+    requires { ⌜ inBounds (ruler .numbers) ≡ true ⌝ }
+    ensures { λ r. ⌜ r ≡ rowTests (scale ruler) (rows (now (there .entry))) t 0 Outcome.Accepted ⌝ }
+{
+    let start = t.start;
+    let end = t.end;
+    if !(ruler.has(start) & ruler.has(end)) {
+        return refused(Refusal::OffRuler);
+    }
+    if end.before(start) {
+        return refused(Refusal::Backward);
+    }
+    if find_id(there, t.id) < there.len() / ENTRY_WORDS {
+        return refused(Refusal::IdTaken);
+    }
+    if (MOST_PARTITIONS as usize) < partitions_of_trip(ruler, t) {
+        return refused(Refusal::TooManyPartitions);
+    }
+    Outcome::Accepted
+}
+
+// The outcome of an addition to words that are an index: 2, then 4, 5, 6 and 11 of the trip, then 7.
+pub fn add_outcome(
+    ruler: Ruler,
+    directory: &[u32],
+    originals: &[u32],
+    replicas: &[u32],
+    t: Trip,
+) -> Outcome
+    requires { ⌜ inBounds (ruler .numbers) ≡ true ⌝ }
+    requires { ⌜ checkOutcome (scale ruler) (index (now directory) (now originals) (now replicas)) ≡ Outcome.Accepted ⌝ }
+    ensures { λ r. ⌜ r ≡ addOutcome (scale ruler) (index (now (directory .entry)) (now (originals .entry)) (now (replicas .entry))) t ⌝ }
+{
+    let n = directory.len();
+    let half = n / 2;
+    let trips = directory[half - 1] as usize;
+    let copies = directory[n - 1] as usize;
+    if Ruler::MOST_TRIPS <= trips {
+        return refused(Refusal::TableSize);
+    }
+    let used = ENTRY_WORDS * trips;
+    let row = trip_outcome(ruler, &originals[0..used], t);
+    if !is_accepted(row) {
+        return row;
+    }
+    if lacks_room(ruler, Half::Originals, trips, originals.len(), t) {
+        return refused(Refusal::NoRoom);
+    }
+    if lacks_room(ruler, Half::Replicas, copies, replicas.len(), t) {
+        return refused(Refusal::NoRoom);
+    }
+    Outcome::Accepted
+}
