@@ -2,10 +2,10 @@
 pub mod counting;
 pub mod directory;
 pub mod entry;
-pub mod places;
 pub mod filling;
 pub mod gap;
 pub mod ids;
 pub mod ordering;
+pub mod places;
 pub mod search;
 pub mod slot;
