@@ -120,7 +120,8 @@ unfolding addOf leaving ifAccepted isAccepted
 add-refused s x t Accepted e q = never e
 add-refused s x t (Refused why d) e q = rw (← q)
 
-pub add-accepted : (s : Scale) (x y : Index) (t : Trip) → addOutcome s x t ≡ Accepted → y ≡ layout s (t ∷ tableOf s x) (lengthsOf x) → after Accepted y ≡ addOf s x t
+pub add-accepted : (s : Scale) (x y : Index) (t : Trip) → addOutcome s x t ≡ Accepted → y ≡ layout s (t ∷ tableOf s x) (lengthsOf x)
+    → after Accepted y ≡ addOf s x t
 unfolding addOf leaving ifAccepted
 add-accepted s x y t q e = rw (q, e)
 

@@ -42,13 +42,15 @@ length-inserted : (p : ℕ) (t : Trip) (l : List Trip) → length (inserted p t 
 length-inserted p t l =
     omega (arith, length-append (take p l) (t ∷ drop p l), length-append (take p l) (drop p l), ap length (take-append-drop p l))
 
-flat-more : (k : ℕ) (ls : List (List Trip)) (x : List Trip) → k < length ls → length x ≡ length (getD ls k []) + 1 → length (flat (set ls k x)) ≡ length (flat ls) + 1
+flat-more : (k : ℕ) (ls : List (List Trip)) (x : List Trip) → k < length ls → length x ≡ length (getD ls k []) + 1
+    → length (flat (set ls k x)) ≡ length (flat ls) + 1
 flat-more k [] x h e = absurd (not-suc-le-zero h)
 flat-more zero (l ∷ ls) x h e = rw (length-append, length-append) (omega arith)
 flat-more (suc k) (l ∷ ls) x h e = rw (length-append, length-append) (omega (arith, flat-more k ls x (le-of-suc-le-suc h) e))
 
 -- the room that the whole table has is in this half's arena
-room-in : (s : Scale) (half : Half) (ts : List Trip) (x : Index) → Room s ts (lengthsOf x) → entryWords * length (entries s half ts) ≤ length (arenaOf half x)
+room-in : (s : Scale) (half : Half) (ts : List Trip) (x : Index) → Room s ts (lengthsOf x)
+    → entryWords * length (entries s half ts) ≤ length (arenaOf half x)
 unfolding lengthsOf
 room-in s Originals ts x r = r .for-originals
 room-in s Replicas ts x r = r .for-replicas
@@ -117,15 +119,24 @@ module _ (s : Scale) (half : Half) (x : Index) (t : Trip) (dir arena : List ℕ)
         let sorted = slot-sorted s half (tableOf s x) spot no-twice in
         let fresh = slot-fresh s half t (tableOf s x) spot (facts .rowOk .fresh) in
         halfway-turn _ _ _ _ spots j h (inserted (placeIn half spot t (grownSlots j)) t)
-        (slot-gets s half t (tableOf s x) spot belongs ∙ insert-place d t l sorted fresh ∙ ap (λ (y : List Trip). inserted (preceding d t y) t l) (sym unchanged))
+        (slot-gets s half t (tableOf s x) spot belongs ∙ insert-place d t l sorted fresh
+        ∙ ap (λ (y : List Trip). inserted (preceding d t y) t l) (sym unchanged))
 
     one-more : length (flat (grownSlots j)) + 1 ≤ length (entries s half (t ∷ tableOf s x))
     unfolding entries entriesBefore
     one-more =
         let p = placeIn half spot t (grownSlots j) in
-        let more = flat-more spot (grownSlots j) (inserted p t (getD (grownSlots j) spot [])) (rw length-upTo inside) (length-inserted p t (getD (grownSlots j) spot [])) in
+        let more = flat-more spot (grownSlots j) (inserted p t (getD (grownSlots j) spot [])) (rw length-upTo inside) (length-inserted p t (getD
+        (grownSlots j) spot [])) in
         let most = halfway-most _ _ _ _ spots (λ k. slot-longer s half t (tableOf s x) k) (j + 1) in
-        omega (arith, more, ap (λ (y : List (List Trip)). length (flat y)) here-put, most, ap length (flat-upTo (slot s half (t ∷ tableOf s x)) (2 * partitions (s .m))))
+        omega (
+          arith,
+          more,
+          ap (λ (y : List (List Trip)). length (flat y)) here-put,
+          most,
+          ap length (flat-upTo (slot s half (t ∷ tableOf s x))
+              (2 * partitions (s .m))),
+        )
 
     vacant : Vacant D A (grownSlots j) half (getD (slotsOfTrip s half t) j 0)
     unfolding spot subdivisionAt
@@ -142,7 +153,8 @@ module _ (s : Scale) (half : Half) (x : Index) (t : Trip) (dir arena : List ℕ)
       few = omega (arith, one-more, entries-most s half (t ∷ tableOf s x) (lengthsOf x) (added-table s x t facts));
     }
 
-    turn : (D′ A′ : List ℕ) → Holds D′ A′ (insertedIn (getD (slotsOfTrip s half t) j 0) (placeIn half (getD (slotsOfTrip s half t) j 0) t (grownSlots j)) t (grownSlots j))
+    turn : (D′ A′ : List ℕ) → Holds D′ A′ (insertedIn (getD (slotsOfTrip s half t) j 0) (placeIn half (getD (slotsOfTrip s half t) j 0) t
+        (grownSlots j)) t (grownSlots j))
         → Holds D′ A′ (grownSlots (j + 1))
     unfolding spot
     turn D′ A′ v = subst (Holds D′ A′) here-put v
@@ -160,7 +172,8 @@ module _ (s : Scale) (half : Half) (x : Index) (t : Trip) (dir arena : List ℕ)
         → Holds D′ A′ (grownSlots (j + 1))
     grown-turn h D′ A′ f =
         turn D A j (subst (λ (l : List ℕ). j < length l) e h) size w D′ A′
-        (subst (λ (l : List ℕ). Holds D′ A′ (insertedIn (getD l j 0) (placeIn half (getD l j 0) t (grownSlots j)) t (grownSlots j))) e (f (grownSlots j) (grown-room h)))
+        (subst (λ (l : List ℕ). Holds D′ A′ (insertedIn (getD l j 0) (placeIn half (getD l j 0) t (grownSlots j)) t (grownSlots j))) e (f
+        (grownSlots j) (grown-room h)))
 
     -- after the last slot the words are those of the table with the trip
     pub grown-end : j ≡ length cs → HalfOf s half (t ∷ tableOf s x) x D A

@@ -65,7 +65,8 @@ unfolding among keep
 not-before k [] q h = refl
 not-before k (c ∷ p) q h = go (eqb c k) h (not-before k p q)
   where
-    go : (b : Bool) → length (consIf b c (those k (p ++ (k ∷ q)))) ≤ 1 → (length (those k (p ++ (k ∷ q))) ≤ 1 → among k p ≡ false) → b || among k p ≡ false
+    go : (b : Bool) → length (consIf b c (those k (p ++ (k ∷ q)))) ≤ 1 → (length (those k (p ++ (k ∷ q))) ≤ 1 → among k p ≡ false)
+        → b || among k p ≡ false
     go true g ih = absurd (omega (arith, some-there k p q))
     go false g ih = ih g
 

@@ -31,12 +31,14 @@ module _ (dir arena : List ℕ) (ls : List (List Trip)) (half : Half) (slot : �
       record { slot-in = omega (arith, holds-slots (o .holds), o .slot-in); rises = p .1; inside = p .2 }
 
   -- the rows of the slot's part are the slot
-  pub part-rows : rows (midOf (entryWords * getD dir slot 0) (entryWords * getD dir (slot + 1) 0 - entryWords * getD dir slot 0) arena) ≡ getD ls slot []
+  pub part-rows : rows (midOf (entryWords * getD dir slot 0) (entryWords * getD dir
+      (slot + 1) 0 - entryWords * getD dir slot 0) arena) ≡ getD ls slot []
   part-rows = parts.slot-rows dir arena ls slot (o .holds) (o .slot-in)
 
   -- they are in order, and a place found in them is one of the slot
   pub part-ordered : (d : Subdivision) → d ≡ subdivisionAt half slot
-      → InOrder (order d) noTrip (rows (midOf (entryWords * getD dir slot 0) (entryWords * getD dir (slot + 1) 0 - entryWords * getD dir slot 0) arena))
+      → InOrder (order d) noTrip (rows (midOf (entryWords * getD dir slot 0) (entryWords * getD dir
+      (slot + 1) 0 - entryWords * getD dir slot 0) arena))
       (length (rows (midOf (entryWords * getD dir slot 0) (entryWords * getD dir (slot + 1) 0 - entryWords * getD dir slot 0) arena)))
   part-ordered d e = rw (e, part-rows) (o .in-order)
 

@@ -55,7 +55,8 @@ unfolding placeOfId
 place-id i [] h = absurd (not-suc-le-zero h)
 place-id i (t ∷ ts) h = go (eqb (t .id) i) refl h (place-id i ts)
   where
-    go : (b : Bool) → eqb (t .id) i ≡ b → cond b 0 (suc (placeOfId i ts)) < suc (length ts) → (placeOfId i ts < length ts → getD ts (placeOfId i ts) noTrip .id ≡ i)
+    go : (b : Bool) → eqb (t .id) i ≡ b → cond b 0 (suc (placeOfId i ts)) < suc (length ts) → (placeOfId i ts < length ts
+        → getD ts (placeOfId i ts) noTrip .id ≡ i)
         → getD (t ∷ ts) (cond b 0 (suc (placeOfId i ts))) noTrip .id ≡ i
     go true e l ih = eqb-true (t .id) i e
     go false e l ih = ih (le-of-suc-le-suc l)
@@ -66,7 +67,8 @@ unfolding tripAt
 row-id part k h = ap (λ (t : Trip). t .id) (getD-rows part k noTrip h)
 
 -- the search: k are passed, and none has the id
-pub search-hit : (i k : ℕ) (ts : List Trip) → k < length ts → placeOfId i ts ≡ k + placeOfId i (drop k ts) → eqb (getD ts k noTrip .id) i ≡ true → k ≡ placeOfId i ts
+pub search-hit : (i k : ℕ) (ts : List Trip) → k < length ts → placeOfId i ts ≡ k + placeOfId i (drop k ts)
+    → eqb (getD ts k noTrip .id) i ≡ true → k ≡ placeOfId i ts
 unfolding placeOfId
 search-hit i k ts h w e =
     let z : placeOfId i (drop k ts) ≡ 0 = rw (drop-cons ts k noTrip h, e) in
@@ -119,7 +121,8 @@ module _ (s : Scale) (ts : List Trip) (n : ℕ) (e : n ≡ directoryLength (s .m
   take-second d f q l =
       let z : n / 2 - 0 ≡ n / 2 = omega arith in
       ap (take (n - n / 2)) (drop-at f _ (n / 2) l)
-      ∙ rw (z, q) (ap (take (n - n / 2)) (drop-at first-half second-half (n / 2) long-first) ∙ ap (λ (k : ℕ). take k second-half) (sym long-second) ∙ take-length second-half)
+      ∙ rw (z, q) (ap (take (n - n / 2)) (drop-at first-half second-half (n / 2) long-first)
+      ∙ ap (λ (k : ℕ). take k second-half) (sym long-second) ∙ take-length second-half)
 
   -- both halves came back
   pub put-both : (d f g : List ℕ) → length d ≡ n → length f ≡ n / 2 → putMid (n / 2) (n - n / 2) (f ++ drop (n / 2 - 0) (drop 0 d)) g ≡ f ++ g
@@ -147,9 +150,6 @@ pub record Shown (s : Scale) (x : Index) : Type 0 where
   pub few-copies : length (entries s Replicas (tableOf s x)) ≤ mostTrips * mostPartitions
 
 module _ (s : Scale) (x : Index) (h : Indexed s x) where
-  the-table : List Trip
-  the-table = tableOf s x
-
   pub directory-is : x .directory ≡ directoryHalf s Originals (tableOf s x) ++ directoryHalf s Replicas (tableOf s x)
   unfolding layout
   directory-is = ap (λ (y : Index). y .directory) (h .words-are)
@@ -183,7 +183,12 @@ module _ (s : Scale) (x : Index) (h : Indexed s x) where
   unfolding directoryLength halfLength
   replicated =
       let o = directoryHalf s Originals (tableOf s x) in
-      let at : length (x .directory) - 1 ≡ length o + 2 * partitions (s .m) = omega (arith, directory-size, directoryHalf-length s Originals (tableOf s x)) in
+      let at : length (x .directory) - 1 ≡ length o + 2 * partitions (s .m) = omega (
+        arith,
+        directory-size,
+        directoryHalf-length s Originals
+            (tableOf s x),
+      ) in
       ap₂ (λ (d : List ℕ) (k : ℕ). getD d k 0) directory-is at
       ∙ getD-append-add o (directoryHalf s Replicas (tableOf s x)) (2 * partitions (s .m)) 0 ∙ last-word s Replicas (tableOf s x)
 
@@ -192,7 +197,8 @@ module _ (s : Scale) (x : Index) (h : Indexed s x) where
   front =
       let l = words (entries s Originals (tableOf s x)) in
       let z : entryWords * length (tableOf s x) - 0 ≡ entryWords * length (tableOf s x) = omega arith in
-      let n : length l ≡ entryWords * length (tableOf s x) = words-length (entries s Originals (tableOf s x)) ∙ ap (λ (k : List Trip). entryWords * length k) (sym itself) in
+      let n : length l ≡ entryWords * length (tableOf s x) = words-length (entries s Originals (tableOf s x))
+      ∙ ap (λ (k : List Trip). entryWords * length k) (sym itself) in
       ap rows (ap₂ take z originals-are ∙ take-at l (replicate (length (x .originals) - length l) 0) (entryWords * length (tableOf s x)) n)
       ∙ rows-words (entries s Originals (tableOf s x)) ∙ sym itself
 
@@ -215,7 +221,11 @@ module _ (s : Scale) (x : Index) (h : Indexed s x) where
   -- ---- its halves, as an edit lends them
 
   pub first-of : HalfOf s Originals (tableOf s x) x (take (length (x .directory) / 2 - 0) (x .directory)) (x .originals)
-  first-of = record { directory-is = take-first s (tableOf s x) (length (x .directory)) directory-size (x .directory) directory-is; arena-is = originals-are }
+  first-of = record {
+    directory-is = take-first s (tableOf s x) (length (x .directory)) directory-size
+        (x .directory) directory-is;
+    arena-is = originals-are;
+  }
 
   module _ (ts : List Trip) (f o : List ℕ) (w : HalfOf s Originals ts x f o) where
     long-f : length f ≡ length (x .directory) / 2
@@ -232,7 +242,8 @@ module _ (s : Scale) (x : Index) (h : Indexed s x) where
 
     -- both halves back are the whole index of the trips
     pub both-of : (g r : List ℕ) → HalfOf s Replicas ts x g r
-        → index (putMid (length (x .directory) / 2) (length (x .directory) - length (x .directory) / 2) (f ++ drop (length (x .directory) / 2 - 0) (drop 0 (x .directory))) g) o r
+        → index (putMid (length (x .directory) / 2) (length (x .directory) - length (x .directory) / 2) (f ++ drop (length
+        (x .directory) / 2 - 0) (drop 0 (x .directory))) g) o r
         ≡ layout s ts (lengthsOf x)
     unfolding layout lengthsOf
     both-of g r v =

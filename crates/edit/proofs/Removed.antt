@@ -30,7 +30,8 @@ short (suc n) (x ∷ l) zero h = omega arith
 short (suc n) (x ∷ l) (suc i) h = omega (arith, short n l i (le-of-suc-le-suc h))
 
 -- what the code reads at a place of the originals is the trip there
-table-at : (s : Scale) (x : Index) (i : ℕ) → i < length (tableOf s x) → i < length (x .originals) / entryWords → tripAt (x .originals) i ≡ getD (tableOf s x) i noTrip
+table-at : (s : Scale) (x : Index) (i : ℕ) → i < length (tableOf s x) → i < length (x .originals) / entryWords
+    → tripAt (x .originals) i ≡ getD (tableOf s x) i noTrip
 unfolding tableOf
 table-at s x i h k =
     let n = getD (x .directory) (2 * partitions (s .m)) 0 in
@@ -49,7 +50,8 @@ module _ (s : Scale) (x : Index) (i place : ℕ) (good : checkOutcome s x ≡ Ac
       let here : t ≡ getD (tableOf s x) place noTrip = q ∙ table-at s x place h (omega (arith, w .inside)) in
       record {
         member = subst (λ (u : Trip). Mem u (tableOf s x)) (sym here) (at-mem noTrip (tableOf s x) place h);
-        same = ap (λ (u : Trip). u .id) here ∙ ap (λ (k : ℕ). getD (tableOf s x) k noTrip .id) e ∙ place-id i (tableOf s x) (subst (λ (k : ℕ). k < length (tableOf s x)) e h);
+        same = ap (λ (u : Trip). u .id) here ∙ ap (λ (k : ℕ). getD (tableOf s x) k noTrip .id) e
+            ∙ place-id i (tableOf s x) (subst (λ (k : ℕ). k < length (tableOf s x)) e h);
         accepted = remove-outcome s x i true good
             (has-place i (tableOf s x) ∙ lt-ltb (placeOfId i (tableOf s x)) (length (tableOf s x)) (subst (λ (k : ℕ). k < length (tableOf s x)) e h));
       }

@@ -34,7 +34,8 @@ use Rattle.edit.proofs.Grown.{arena-long}
 module _ (s : Scale) (half : Half) (x : Index) (t : Trip) (dir arena : List ℕ) (a : Removing s half x t dir arena) where
   -- the slots after the first j of the trip's
   abbrev pub shrunkSlots : (j : ℕ) → List (List Trip)
-  shrunkSlots j = upTo (halfway (slot s half (tableOf s x)) (slot s half (without (t .id) (tableOf s x))) (slotsOfTrip s half t) j) (2 * partitions (s .m))
+  shrunkSlots j = upTo (halfway (slot s half (tableOf s x)) (slot s half (without (t .id) (tableOf s x))) (slotsOfTrip s half t) j)
+      (2 * partitions (s .m))
 
   facts : Removable s x (t .id)
   facts = of-remove s x (t .id) (a .accepted)
@@ -93,7 +94,8 @@ module _ (s : Scale) (half : Half) (x : Index) (t : Trip) (dir arena : List ℕ)
       here = rw unchanged has;
     }
 
-    turn : (D′ A′ : List ℕ) → Holds D′ A′ (removedIn (getD (slotsOfTrip s half t) j 0) (placeIn half (getD (slotsOfTrip s half t) j 0) t (shrunkSlots j)) (shrunkSlots j))
+    turn : (D′ A′ : List ℕ) → Holds D′ A′ (removedIn (getD (slotsOfTrip s half t) j 0) (placeIn half (getD (slotsOfTrip s half t) j 0) t
+        (shrunkSlots j)) (shrunkSlots j))
         → Holds D′ A′ (shrunkSlots (j + 1))
     unfolding spot subdivisionAt
     turn D′ A′ v =
@@ -101,7 +103,8 @@ module _ (s : Scale) (half : Half) (x : Index) (t : Trip) (dir arena : List ℕ)
         let d = subdivisionAt half spot in
         let gone = remove-place d t l (slot-sorted s half (tableOf s x) spot no-twice) (slot-distinct s half (tableOf s x) spot no-twice) has in
         let taken = halfway-turn _ _ _ _ spots j h (removed (placeIn half spot t (shrunkSlots j)))
-        (slot-without s half t (tableOf s x) spot no-twice (a .present) ∙ sym gone ∙ ap (λ (y : List Trip). removed (preceding d t y) l) (sym unchanged)) in
+        (slot-without s half t (tableOf s x) spot no-twice (a .present) ∙ sym gone
+        ∙ ap (λ (y : List Trip). removed (preceding d t y) l) (sym unchanged)) in
         subst (Holds D′ A′) taken v
 
   -- ---- the loop over the trip's slots
@@ -117,7 +120,8 @@ module _ (s : Scale) (half : Half) (x : Index) (t : Trip) (dir arena : List ℕ)
         → Holds D′ A′ (shrunkSlots (j + 1))
     shrunk-turn h D′ A′ f =
         turn D A j (subst (λ (l : List ℕ). j < length l) e h) w D′ A′
-        (subst (λ (l : List ℕ). Holds D′ A′ (removedIn (getD l j 0) (placeIn half (getD l j 0) t (shrunkSlots j)) (shrunkSlots j))) e (f (shrunkSlots j) (shrunk-there h)))
+        (subst (λ (l : List ℕ). Holds D′ A′ (removedIn (getD l j 0) (placeIn half (getD l j 0) t (shrunkSlots j)) (shrunkSlots j))) e (f
+        (shrunkSlots j) (shrunk-there h)))
 
     -- after the last slot the words are those of the table without the trip
     pub shrunk-end : length A ≡ length arena → j ≡ length cs → HalfOf s half (without (t .id) (tableOf s x)) x D A

@@ -20,6 +20,7 @@ ghost use Rattle.layout.specs.Refusals.{isAccepted, partitionsHolding, rowTests
 ghost use Rattle.layout.specs.Calls.{index};
 ghost use Rattle.layout.specs.Walk.{slotsOfTrip};
 ghost use Rattle.store.specs.Passes.{mostEntries};
+ghost use Rattle.store.specs.Places.{mostSlots};
 ghost use Rattle.edit.specs.Search.{placeOfId};
 
 pub fn is_accepted(outcome: Outcome) -> bool
@@ -59,7 +60,7 @@ pub fn find_id(part: &[u32], id: u32) -> usize
 fn entries_of_trip(ruler: Ruler, half: Half, t: Trip) -> usize
     requires { ⌜ inBounds (ruler .numbers) ≡ true ⌝ }
     requires { ⌜ (scale ruler .cell (t .start) < 2 ^ scale ruler .m) × (scale ruler .cell (t .end) < 2 ^ scale ruler .m) ⌝ }
-    ensures { λ r. ⌜ (r ≡ length (slotsOfTrip (scale ruler) half t)) × (r ≤ 22) ⌝ }
+    ensures { λ r. ⌜ (r ≡ length (slotsOfTrip (scale ruler) half t)) × (r ≤ mostSlots) ⌝ }
 {
     let mut spots = [0u32; places::MOST_SLOTS];
     half::spots_of(ruler, half, t, &mut spots)

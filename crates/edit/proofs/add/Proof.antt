@@ -64,7 +64,8 @@ returns-2 c =
     let g = c .before .before .before .before .before .before .before .before .before .before .before .before .before in
     let s = scaleOf (g .args .numbers) in
     let x = index (g .args .directory .now) (g .args .originals .now) (g .args .replicas .now) in
-    let taken = is-accepted _ (sym (c .before .before .before .before .before .is-accepted .ensures) ∙ not-false _ (c .before .before .before .before .if1 .left)) in
+    let taken = is-accepted _ (sym (c .before .before .before .before .before .is-accepted .ensures)
+    ∙ not-false _ (c .before .before .before .before .if1 .left)) in
     let out = judged-out _ (sym (c .before .before .before .new .ensures) ∙ c .before .enum-told .given .1) in
     refused-not _ _ (check-bounds s x out ∙ sym (c .before .before .before .before .before .before .check .ensures) ∙ taken)
 
@@ -75,8 +76,12 @@ add-checked-requires c κs =
     let x = index (g .args .directory .now) (g .args .originals .now) (g .args .replicas .now) in
     let ruler = c .before .before .before .before .ruler .given in
     let made = judged-good _ (ruler .0 .0) (sym (c .before .before .before .before .before .before .new .ensures) ∙ ruler .1) in
-    let taken = is-accepted _ (sym (c .before .before .before .before .before .before .before .before .is-accepted .ensures) ∙ not-false _ (c .before .before .before .before .before .before .before .if1 .left)) in
-    (rw (made .numbers) (made .good), rw (made .numbers) (sym (c .before .before .before .before .before .before .before .before .before .check .ensures) ∙ taken))
+    let taken = is-accepted _ (sym (c .before .before .before .before .before .before .before .before .is-accepted .ensures)
+    ∙ not-false _ (c .before .before .before .before .before .before .before .if1 .left)) in (
+      rw (made .numbers) (made .good),
+      rw (made .numbers) (sym
+          (c .before .before .before .before .before .before .before .before .before .check .ensures) ∙ taken),
+    )
 
 same-length-7 : tie.Need-same-length-7
 same-length-7 c = search needs

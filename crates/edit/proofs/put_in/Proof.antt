@@ -61,7 +61,8 @@ returns c =
     let x = index (s .args .directory .now) (s .args .originals .now) (s .args .replicas .now) in
     let ix = adding-index (s .args .ruler) (s .pre .0) x (s .args .t) (s .pre .1) in
     let ready = adding (s .args .ruler) (s .pre .0) x (s .args .t) (s .pre .1) in
-    let done = c .before .before .before .before .before .before .before .before .before .before .before .add-half .ensures x (ready _ _ _ (first-of (scale (s .args .ruler)) x ix)) in
+    let done = c .before .before .before .before .before .before .before .before .before .before .before .add-half .ensures x (ready _ _ _
+    (first-of (scale (s .args .ruler)) x ix)) in
     let last = c .before .before .before .before .add-half2 .ensures x (ready _ _ _ (second-of (scale (s .args .ruler)) x ix _ _ _ done)) in
     both-of (scale (s .args .ruler)) x ix _ _ _ done _ _ last
 

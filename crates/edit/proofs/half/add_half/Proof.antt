@@ -19,7 +19,11 @@ part-add-to-slots-start : tie.Need-part-add-to-slots-start
 part-add-to-slots-start c = search needs
 
 part-add-to-slots-end : tie.Need-part-add-to-slots-end
-part-add-to-slots-end c = let g = c .before .before .before .before .spots-of in omega (arith, over-inside (g .result) _ _ _ (g .ensures .0) (g .ensures .1))
+part-add-to-slots-end c = let g = c .before .before .before .before .spots-of in omega (
+  arith,
+  over-inside (g .result) _ _ _ (g .ensures .0)
+      (g .ensures .1),
+)
 
 add-to-slots-requires : tie.Need-add-to-slots-requires
 add-to-slots-requires c κs =
@@ -37,7 +41,8 @@ returns : tie.Need-returns
 returns c =
     let s = c .before .before .before .before .before .before .before .before .before .before .before .before .before .before in
     let g = c .before .before .before .before .before .before .before .before .before .before .spots-of in
-    λ x a. c .before .before .before .before .add-to-slots .ensures (scale (s .args .ruler)) x a (over-front (g .result) _ _ _ (g .ensures .0) (g .ensures .1))
+    λ x a. c .before .before .before .before .add-to-slots .ensures (scale (s .args .ruler)) x a (over-front (g .result) _ _ _ (g .ensures .0)
+    (g .ensures .1))
 
 pub add-half-spec : {M : Type 1} → statement M
 add-half-spec =

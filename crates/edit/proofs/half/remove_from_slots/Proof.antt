@@ -16,13 +16,20 @@ use Rattle.edit.proofs.half.remove_from_slots.Tie as tie
 abbrev Inv-loop : tie.InvT-loop
 Inv-loop half dir₀ arena₀ spots t j₀ dir arena j =
     (j ≤ length spots) × (length dir ≡ length dir₀) × (length arena ≡ length arena₀)
-    × ((s : Scale) (x : Index) (a : Removing s half x t dir₀ arena₀) → spots ≡ slotsOfTrip s half t → Holds dir arena (shrunkSlots s half x t dir₀ arena₀ a j))
+    × ((s : Scale) (x : Index) (a : Removing s half x t dir₀ arena₀) → spots ≡ slotsOfTrip s half t
+    → Holds dir arena (shrunkSlots s half x t dir₀ arena₀ a j))
 
 abbrev μ-loop : tie.MeasureT-loop
 μ-loop half dir₀ arena₀ spots t j₀ dir arena j = length spots - j
 
 loop-holds : tie.Need-loop-holds Inv-loop μ-loop
-loop-holds c = let g = c .before .before .before .args in (omega arith, refl, refl, λ s x a e. shrunk-start s (g .half) x (g .t) (g .dir .now) (g .arena .now) a)
+loop-holds c = let g = c .before .before .before .args in (
+  omega arith,
+  refl,
+  refl,
+  λ s x a e. shrunk-start s (g .half) x (g .t) (g .dir .now)
+      (g .arena .now) a,
+)
 
 mul-spot : tie.Need-mul-spot Inv-loop μ-loop
 mul-spot c = search needs
@@ -40,7 +47,8 @@ remove-from-slot-requires c κs =
     let l = c .before .before .before .before .loop in
     let a = s .pre .2 in (
       shrunkSlots (s .pre .0) (g .half) (s .pre .1) (g .t) (g .dir .now) (g .arena .now) a (l .j),
-      shrunk-there (s .pre .0) (g .half) (s .pre .1) (g .t) (g .dir .now) (g .arena .now) a (g .spots .now) (s .pre .3) (l .dir) (l .arena) (l .j) (l .inv .3 (s .pre .0) (s .pre .1) a (s .pre .3)) (omega arith),
+      shrunk-there (s .pre .0) (g .half) (s .pre .1) (g .t) (g .dir .now) (g .arena .now) a (g .spots .now) (s .pre .3) (l .dir) (l .arena)
+          (l .j) (l .inv .3 (s .pre .0) (s .pre .1) a (s .pre .3)) (omega arith),
     )
 
 add-j : tie.Need-add-j Inv-loop μ-loop
@@ -56,7 +64,8 @@ loop-again c =
       omega arith,
       omega (arith, c .before .before .before .before .remove-from-slot .kept),
       omega (arith, c .before .before .before .before .remove-from-slot .kept),
-      λ s x a e. shrunk-turn s (g .half) x (g .t) (g .dir .now) (g .arena .now) a (g .spots .now) e (l .dir) (l .arena) (l .j) (l .inv .3 s x a e) (omega arith) _ _ (c .before .before .before .before .remove-from-slot .ensures),
+      λ s x a e. shrunk-turn s (g .half) x (g .t) (g .dir .now) (g .arena .now) a (g .spots .now) e (l .dir) (l .arena) (l .j)
+          (l .inv .3 s x a e) (omega arith) _ _ (c .before .before .before .before .remove-from-slot .ensures),
     )
 
 same-length : tie.Need-same-length Inv-loop μ-loop
@@ -69,7 +78,8 @@ returns : tie.Need-returns Inv-loop μ-loop
 returns c =
     let g = c .before .before .before .before .before .args in
     let l = c .before .loop in
-    λ s x a e. shrunk-end s (g .half) x (g .t) (g .dir .now) (g .arena .now) a (g .spots .now) e (l .dir) (l .arena) (l .j) (l .inv .3 s x a e) (l .inv .2) (omega arith)
+    λ s x a e. shrunk-end s (g .half) x (g .t) (g .dir .now) (g .arena .now) a (g .spots .now) e (l .dir) (l .arena) (l .j) (l .inv .3 s x a e)
+    (l .inv .2) (omega arith)
 
 pub remove-from-slots-spec : {M : Type 1} → statement M
 remove-from-slots-spec =

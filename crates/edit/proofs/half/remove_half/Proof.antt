@@ -19,7 +19,11 @@ part-remove-from-slots-start : tie.Need-part-remove-from-slots-start
 part-remove-from-slots-start c = search needs
 
 part-remove-from-slots-end : tie.Need-part-remove-from-slots-end
-part-remove-from-slots-end c = let g = c .before .before .before .before .spots-of in omega (arith, over-inside (g .result) _ _ _ (g .ensures .0) (g .ensures .1))
+part-remove-from-slots-end c = let g = c .before .before .before .before .spots-of in omega (
+  arith,
+  over-inside (g .result) _ _ _
+      (g .ensures .0) (g .ensures .1),
+)
 
 remove-from-slots-requires : tie.Need-remove-from-slots-requires
 remove-from-slots-requires c κs =
@@ -37,7 +41,8 @@ returns : tie.Need-returns
 returns c =
     let s = c .before .before .before .before .before .before .before .before .before .before .before .before .before .before in
     let g = c .before .before .before .before .before .before .before .before .before .before .spots-of in
-    λ x a. c .before .before .before .before .remove-from-slots .ensures (scale (s .args .ruler)) x a (over-front (g .result) _ _ _ (g .ensures .0) (g .ensures .1))
+    λ x a. c .before .before .before .before .remove-from-slots .ensures (scale (s .args .ruler)) x a (over-front (g .result) _ _ _
+    (g .ensures .0) (g .ensures .1))
 
 pub remove-half-spec : {M : Type 1} → statement M
 remove-half-spec =

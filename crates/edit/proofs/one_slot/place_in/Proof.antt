@@ -69,13 +69,15 @@ find-place-requires : tie.Need-find-place-requires
 unfolding entryWords
 find-place-requires c κs =
     let s = c .before .before .before .before .before .before in
-    part-ordered (s .args .dir .now) (s .args .arena .now) (s .pre .0) (s .args .half) (s .args .slot) (s .pre .1) (c .subdivision-at .result) (c .subdivision-at .ensures)
+    part-ordered (s .args .dir .now) (s .args .arena .now) (s .pre .0) (s .args .half) (s .args .slot) (s .pre .1) (c .subdivision-at .result)
+    (c .subdivision-at .ensures)
 
 returns : tie.Need-returns
 unfolding entryWords
 returns c = λ ls o.
     let a = c .before .before .before .before .before .before .before .args in
-    part-place (a .dir .now) (a .arena .now) ls (a .half) (a .slot) o (c .before .subdivision-at .result) (a .t) (c .find-place .result) (c .before .subdivision-at .ensures) (c .find-place .ensures)
+    part-place (a .dir .now) (a .arena .now) ls (a .half) (a .slot) o (c .before .subdivision-at .result) (a .t) (c .find-place .result)
+    (c .before .subdivision-at .ensures) (c .find-place .ensures)
 
 pub place-in-spec : {M : Type 1} → statement M
 place-in-spec =

@@ -69,7 +69,8 @@ returns c =
     let s = scale r in
     let x = index (g .args .directory .now) (g .args .originals .now) (g .args .replicas .now) in
     let w = in-index g in
-    let full : leb mostTrips (length (tableOf s x)) ≡ true = le-leb mostTrips (length (tableOf s x)) (omega (arith, w .trips, c .before .if1 .taken)) in
+    let full : leb mostTrips (length (tableOf s x)) ≡ true = le-leb mostTrips (length (tableOf s x)) (omega
+    (arith, w .trips, c .before .if1 .taken)) in
     c .refused .ensures ∙ sym (add-full s x t (g .pre .1) w true full)
 
 mul-used : tie.Need-mul-used
@@ -100,7 +101,8 @@ returns-2 c =
     let s = scale r in
     let x = index (g .args .directory .now) (g .args .originals .now) (g .args .replicas .now) in
     let w = in-index g in
-    let few : leb mostTrips (length (tableOf s x)) ≡ false = lt-leb mostTrips (length (tableOf s x)) (omega (arith, w .trips, c .before .before .before .before .if1 .left)) in
+    let few : leb mostTrips (length (tableOf s x)) ≡ false = lt-leb mostTrips (length (tableOf s x)) (omega
+    (arith, w .trips, c .before .before .before .before .if1 .left)) in
     let read = ap (λ (k : ℕ). rows (take (entryWords * k - 0) (x .originals))) (w .trips) ∙ w .listed in
     let is = c .before .before .trip-outcome .ensures ∙ ap (λ (l : List Trip). rowTests s l t 0 Accepted) read in
     let no = sym (c .before .is-accepted .ensures) ∙ not-true _ (c .if2 .taken) in
@@ -115,7 +117,8 @@ lacks-room-requires c κs =
     let s = scale r in
     let x = index (g .args .directory .now) (g .args .originals .now) (g .args .replicas .now) in
     let w = in-index g in
-    let few : leb mostTrips (length (tableOf s x)) ≡ false = lt-leb mostTrips (length (tableOf s x)) (omega (arith, w .trips, c .before .before .before .before .if1 .left)) in
+    let few : leb mostTrips (length (tableOf s x)) ≡ false = lt-leb mostTrips (length (tableOf s x)) (omega
+    (arith, w .trips, c .before .before .before .before .if1 .left)) in
     let read = ap (λ (k : ℕ). rows (take (entryWords * k - 0) (x .originals))) (w .trips) ∙ w .listed in
     let is = c .before .before .trip-outcome .ensures ∙ ap (λ (l : List Trip). rowTests s l t 0 Accepted) read in
     let ok = row-taken s (tableOf s x) t _ is (sym (c .before .is-accepted .ensures) ∙ not-false _ (c .if2 .left)) in
@@ -134,10 +137,12 @@ returns-3 c =
     let s = scale r in
     let x = index (g .args .directory .now) (g .args .originals .now) (g .args .replicas .now) in
     let w = in-index g in
-    let few : leb mostTrips (length (tableOf s x)) ≡ false = lt-leb mostTrips (length (tableOf s x)) (omega (arith, w .trips, c .before .before .before .before .before .before .before .if1 .left)) in
+    let few : leb mostTrips (length (tableOf s x)) ≡ false = lt-leb mostTrips (length (tableOf s x)) (omega
+    (arith, w .trips, c .before .before .before .before .before .before .before .if1 .left)) in
     let read = ap (λ (k : ℕ). rows (take (entryWords * k - 0) (x .originals))) (w .trips) ∙ w .listed in
     let is = c .before .before .before .before .before .trip-outcome .ensures ∙ ap (λ (l : List Trip). rowTests s l t 0 Accepted) read in
-    let ok = row-taken s (tableOf s x) t _ is (sym (c .before .before .before .before .is-accepted .ensures) ∙ not-false _ (c .before .before .before .if2 .left)) in
+    let ok = row-taken s (tableOf s x) t _ is (sym (c .before .before .before .before .is-accepted .ensures)
+    ∙ not-false _ (c .before .before .before .if2 .left)) in
     let cells = cells-in r (g .pre .0) t (ok .fits) in
     let first : ltb (length (x .originals)) (entryWords * (length (tableOf s x) + length (slotsOfTrip s Originals t))) ≡ true =
     rw (← w .trips) (sym (c .before .before .lacks-room .ensures) ∙ c .before .if3 .taken) in
@@ -152,7 +157,8 @@ lacks-room-requires-2 c κs =
     let s = scale r in
     let x = index (g .args .directory .now) (g .args .originals .now) (g .args .replicas .now) in
     let w = in-index g in
-    let few : leb mostTrips (length (tableOf s x)) ≡ false = lt-leb mostTrips (length (tableOf s x)) (omega (arith, w .trips, c .before .before .before .before .before .before .if1 .left)) in
+    let few : leb mostTrips (length (tableOf s x)) ≡ false = lt-leb mostTrips (length (tableOf s x)) (omega
+    (arith, w .trips, c .before .before .before .before .before .before .if1 .left)) in
     let read = ap (λ (k : ℕ). rows (take (entryWords * k - 0) (x .originals))) (w .trips) ∙ w .listed in
     let is = c .before .before .before .before .trip-outcome .ensures ∙ ap (λ (l : List Trip). rowTests s l t 0 Accepted) read in
     let ok = row-taken s (tableOf s x) t _ is (sym (c .before .before .before .is-accepted .ensures) ∙ not-false _ (c .before .before .if2 .left)) in
@@ -171,10 +177,13 @@ returns-4 c =
     let s = scale r in
     let x = index (g .args .directory .now) (g .args .originals .now) (g .args .replicas .now) in
     let w = in-index g in
-    let few : leb mostTrips (length (tableOf s x)) ≡ false = lt-leb mostTrips (length (tableOf s x)) (omega (arith, w .trips, c .before .before .before .before .before .before .before .before .before .if1 .left)) in
+    let few : leb mostTrips (length (tableOf s x)) ≡ false = lt-leb mostTrips (length (tableOf s x)) (omega
+    (arith, w .trips, c .before .before .before .before .before .before .before .before .before .if1 .left)) in
     let read = ap (λ (k : ℕ). rows (take (entryWords * k - 0) (x .originals))) (w .trips) ∙ w .listed in
-    let is = c .before .before .before .before .before .before .before .trip-outcome .ensures ∙ ap (λ (l : List Trip). rowTests s l t 0 Accepted) read in
-    let ok = row-taken s (tableOf s x) t _ is (sym (c .before .before .before .before .before .before .is-accepted .ensures) ∙ not-false _ (c .before .before .before .before .before .if2 .left)) in
+    let is = c .before .before .before .before .before .before .before .trip-outcome .ensures
+    ∙ ap (λ (l : List Trip). rowTests s l t 0 Accepted) read in
+    let ok = row-taken s (tableOf s x) t _ is (sym (c .before .before .before .before .before .before .is-accepted .ensures)
+    ∙ not-false _ (c .before .before .before .before .before .if2 .left)) in
     let cells = cells-in r (g .pre .0) t (ok .fits) in
     let first : ltb (length (x .originals)) (entryWords * (length (tableOf s x) + length (slotsOfTrip s Originals t))) ≡ false =
     rw (← w .trips) (sym (c .before .before .before .before .lacks-room .ensures) ∙ c .before .before .before .if3 .left) in
@@ -191,10 +200,12 @@ returns-5 c =
     let s = scale r in
     let x = index (g .args .directory .now) (g .args .originals .now) (g .args .replicas .now) in
     let w = in-index g in
-    let few : leb mostTrips (length (tableOf s x)) ≡ false = lt-leb mostTrips (length (tableOf s x)) (omega (arith, w .trips, c .before .before .before .before .before .before .before .before .if1 .left)) in
+    let few : leb mostTrips (length (tableOf s x)) ≡ false = lt-leb mostTrips (length (tableOf s x)) (omega
+    (arith, w .trips, c .before .before .before .before .before .before .before .before .if1 .left)) in
     let read = ap (λ (k : ℕ). rows (take (entryWords * k - 0) (x .originals))) (w .trips) ∙ w .listed in
     let is = c .before .before .before .before .before .before .trip-outcome .ensures ∙ ap (λ (l : List Trip). rowTests s l t 0 Accepted) read in
-    let ok = row-taken s (tableOf s x) t _ is (sym (c .before .before .before .before .before .is-accepted .ensures) ∙ not-false _ (c .before .before .before .before .if2 .left)) in
+    let ok = row-taken s (tableOf s x) t _ is (sym (c .before .before .before .before .before .is-accepted .ensures)
+    ∙ not-false _ (c .before .before .before .before .if2 .left)) in
     let cells = cells-in r (g .pre .0) t (ok .fits) in
     let first : ltb (length (x .originals)) (entryWords * (length (tableOf s x) + length (slotsOfTrip s Originals t))) ≡ false =
     rw (← w .trips) (sym (c .before .before .before .lacks-room .ensures) ∙ c .before .before .if3 .left) in

@@ -18,7 +18,8 @@ add-result : tie.Need-add-result
 add-result c = search needs
 
 returns : tie.Need-returns
-returns c = let s = c .before .before in ap₂ _+_ (c .before .entries-of-trip .ensures .0) (c .entries-of-trip2 .ensures .0) ∙ held-many (scale (s .args .ruler)) (s .args .t) (s .pre .1 .1)
+returns c = let s = c .before .before in ap₂ _+_ (c .before .entries-of-trip .ensures .0) (c .entries-of-trip2 .ensures .0)
+    ∙ held-many (scale (s .args .ruler)) (s .args .t) (s .pre .1 .1)
 
 pub partitions-of-trip-spec : {M : Type 1} → statement M
 partitions-of-trip-spec =

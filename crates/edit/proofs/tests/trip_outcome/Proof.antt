@@ -52,7 +52,8 @@ returns-2 c =
     let s = scale (g .args .ruler) in
     let ts = rows (g .args .there .now) in
     let off : not (s .has (t .start) && s .has (t .end)) ≡ false =
-    rw (← c .before .before .before .before .before .has .ensures, ← c .before .before .before .before .has2 .ensures) (c .before .before .before .if1 .left) in
+    rw (← c .before .before .before .before .before .has .ensures, ← c .before .before .before .before .has2 .ensures)
+    (c .before .before .before .if1 .left) in
     let back : before (t .end) (t .start) ≡ true = sym (c .before .before .before2 .ensures) ∙ c .before .if2 .taken in
     c .refused2 .ensures ∙ sym (row-outcome s ts t false true _ _ off back refl refl)
 
@@ -71,9 +72,11 @@ returns-3 c =
     let ts = rows (g .args .there .now) in
     let off : not (s .has (t .start) && s .has (t .end)) ≡ false =
     rw (← c .before .before .before .before .before .before .before .has .ensures, ← c .before .before .before .before .before .before .has2 .ensures) (c .before .before .before .before .before .if1 .left) in
-    let back : before (t .end) (t .start) ≡ false = sym (c .before .before .before .before .before2 .ensures) ∙ c .before .before .before .if2 .left in
+    let back : before (t .end) (t .start) ≡ false = sym (c .before .before .before .before .before2 .ensures)
+    ∙ c .before .before .before .if2 .left in
     let known : hasId (t .id) ts ≡ true =
-    has-place (t .id) ts ∙ lt-ltb (placeOfId (t .id) ts) (length ts) (rw (← c .before .before .find-id .ensures, length-rows) (c .before .if3 .taken)) in
+    has-place (t .id) ts ∙ lt-ltb (placeOfId (t .id) ts) (length ts) (rw (← c .before .before .find-id .ensures, length-rows)
+    (c .before .if3 .taken)) in
     c .refused3 .ensures ∙ sym (row-outcome s ts t false false true _ off back known refl)
 
 cast-if4 : tie.Need-cast-if4
@@ -87,7 +90,8 @@ partitions-of-trip-requires c κs =
     let s = scale (g .args .ruler) in
     let ts = rows (g .args .there .now) in
     let off : not (s .has (t .start) && s .has (t .end)) ≡ false =
-    rw (← c .before .before .before .before .before .before .has .ensures, ← c .before .before .before .before .before .has2 .ensures) (c .before .before .before .before .if1 .left) in
+    rw (← c .before .before .before .before .before .before .has .ensures, ← c .before .before .before .before .before .has2 .ensures)
+    (c .before .before .before .before .if1 .left) in
     let back : before (t .end) (t .start) ≡ false = sym (c .before .before .before .before2 .ensures) ∙ c .before .before .if2 .left in
     (g .pre, cells-in (g .args .ruler) (g .pre) t (of-times s t (not-T-of _ off) (not-T-of _ back)))
 
@@ -103,9 +107,11 @@ returns-4 c =
     let ts = rows (g .args .there .now) in
     let off : not (s .has (t .start) && s .has (t .end)) ≡ false =
     rw (← c .before .before .before .before .before .before .before .before .before .has .ensures, ← c .before .before .before .before .before .before .before .before .has2 .ensures) (c .before .before .before .before .before .before .before .if1 .left) in
-    let back : before (t .end) (t .start) ≡ false = sym (c .before .before .before .before .before .before .before2 .ensures) ∙ c .before .before .before .before .before .if2 .left in
+    let back : before (t .end) (t .start) ≡ false = sym (c .before .before .before .before .before .before .before2 .ensures)
+    ∙ c .before .before .before .before .before .if2 .left in
     let known : hasId (t .id) ts ≡ false =
-    has-place (t .id) ts ∙ le-ltb (placeOfId (t .id) ts) (length ts) (rw (← c .before .before .before .before .find-id .ensures, length-rows) (c .before .before .before .if3 .left)) in
+    has-place (t .id) ts ∙ le-ltb (placeOfId (t .id) ts) (length ts) (rw (← c .before .before .before .before .find-id .ensures, length-rows)
+    (c .before .before .before .if3 .left)) in
     let many : ltb mostPartitions (partitionsHolding s t) ≡ true =
     lt-ltb mostPartitions (partitionsHolding s t) (rw (← c .before .before .partitions-of-trip .ensures) (c .before .if4 .taken)) in
     c .refused4 .ensures ∙ sym (row-outcome s ts t false false false true off back known many)
@@ -119,9 +125,11 @@ returns-5 c =
     let ts = rows (g .args .there .now) in
     let off : not (s .has (t .start) && s .has (t .end)) ≡ false =
     rw (← c .before .before .before .before .before .before .before .before .has .ensures, ← c .before .before .before .before .before .before .before .has2 .ensures) (c .before .before .before .before .before .before .if1 .left) in
-    let back : before (t .end) (t .start) ≡ false = sym (c .before .before .before .before .before .before2 .ensures) ∙ c .before .before .before .before .if2 .left in
+    let back : before (t .end) (t .start) ≡ false = sym (c .before .before .before .before .before .before2 .ensures)
+    ∙ c .before .before .before .before .if2 .left in
     let known : hasId (t .id) ts ≡ false =
-    has-place (t .id) ts ∙ le-ltb (placeOfId (t .id) ts) (length ts) (rw (← c .before .before .before .find-id .ensures, length-rows) (c .before .before .if3 .left)) in
+    has-place (t .id) ts ∙ le-ltb (placeOfId (t .id) ts) (length ts) (rw (← c .before .before .before .find-id .ensures, length-rows)
+    (c .before .before .if3 .left)) in
     let many : ltb mostPartitions (partitionsHolding s t) ≡ false =
     le-ltb mostPartitions (partitionsHolding s t) (rw (← c .before .partitions-of-trip .ensures) (c .if4 .left)) in
     sym (row-outcome s ts t false false false false off back known many)
