@@ -2,6 +2,7 @@
 use ruler::Numbers;
 
 pub mod reply;
+pub mod turn;
 
 // What the session keeps beside the words lent to the index.
 pub struct Desk {

@@ -1,0 +1,321 @@
+// A turn for each kind of line, and the turn of any line.
+use crate::Desk;
+use crate::Turned;
+use crate::reply;
+use layout::Outcome;
+use ruler::Numbers;
+use ruler::Time;
+use ruler::power;
+use text::Command;
+use trip::Trip;
+use trip::Window;
+ghost use mathlib.Core.Path.{_≡_};
+ghost use mathlib.Core.Bool.{true};
+ghost use mathlib.Core.List.{List};
+ghost use Prim.Native.Nat.{ℕ, _+_, _*_, _≤_};
+ghost use lib.ListN.{length};
+ghost use Rattle.ruler.specs.Ruler.{deepest, scaleOf};
+ghost use Rattle.layout.specs.Words.{directoryLength, Index};
+ghost use Rattle.layout.specs.Refusals.{isAccepted};
+ghost use Rattle.layout.specs.Calls.{index, addOf, removeOf, askOf};
+ghost use Rattle.text.specs.declared.Command.the-variants.{Ruler, Add, Remove, Ask};
+ghost use Rattle.text.specs.Command.{commandOf};
+ghost use Rattle.dialogue.specs.Reply.{mostDigits, shortReply};
+ghost use Rattle.dialogue.specs.Session.{deepestHere, mostAnswers, state, Done, shown, badLine, opened, edited, answered, turnOf};
+
+// The deepest level that a D line may name.
+const DEEPEST_HERE: u32 = 8;
+
+// The words of a directory for levels 0 to m.
+fn directory_words(m: u32) -> usize
+    requires { ⌜ m ≤ deepest ⌝ }
+    ensures { λ r. ⌜ r ≡ directoryLength m ⌝ }
+{
+    4 * (power(m + 1) as usize - 1) + 2
+}
+
+fn is_accepted(outcome: Outcome) -> bool
+    ensures { λ r. ⌜ r ≡ isAccepted outcome ⌝ }
+{
+    match outcome {
+        Outcome::Accepted => true,
+        Outcome::Refused {
+            refusal: _,
+            detail: _,
+        } => false,
+    }
+}
+
+// A malformed line: nothing changes, and it is the last.
+fn bad_turn(desk: Desk, reply: &mut [u8]) -> Turned
+    requires { ⌜ shortReply ≤ length (now reply) ⌝ }
+    ensures { λ r. ⌜ ((x : Index) (l : List ℕ) → Done (badLine (state desk x l)) r x l (now (reply .entry)) (now (reply .exit))) ⌝ }
+{
+    let written = reply::put_bad_line(reply);
+    Turned {
+        desk,
+        written,
+        more: false,
+    }
+}
+
+// A D line: the index of an empty table.
+fn open_turn(
+    desk: Desk,
+    numbers: Numbers,
+    directory: &mut [u32],
+    originals: &mut [u32],
+    replicas: &mut [u32],
+    reply: &mut [u8],
+) -> Turned
+    requires { ⌜ (numbers .m ≤ deepestHere) × (directoryLength deepestHere ≤ length (now directory)) × (shortReply ≤ length (now reply)) ⌝ }
+    ensures { λ r. ⌜ ((l : List ℕ) → Done (opened (state desk (index (now (directory .entry)) (now (originals .entry)) (now (replicas .entry))) l) numbers) r (index (now (directory .exit)) (now (originals .exit)) (now (replicas .exit))) l (now (reply .entry)) (now (reply .exit))) ⌝ }
+{
+    let n = directory_words(numbers.m);
+    let no_rows = [0u32; 1];
+    let outcome = build::build(
+        numbers,
+        &no_rows[0..0],
+        &mut directory[0..n],
+        originals,
+        replicas,
+    );
+    let written = reply::put_outcome(reply, outcome);
+    let accepted = is_accepted(outcome);
+    Turned {
+        desk: Desk {
+            started: accepted,
+            numbers,
+        },
+        written,
+        more: accepted,
+    }
+}
+
+// A T line.
+fn add_turn(
+    desk: Desk,
+    t: Trip,
+    directory: &mut [u32],
+    originals: &mut [u32],
+    replicas: &mut [u32],
+    reply: &mut [u8],
+) -> Turned
+    requires { ⌜ (desk .numbers .m ≤ deepestHere) × (directoryLength deepestHere ≤ length (now directory)) × (shortReply ≤ length (now reply)) ⌝ }
+    ensures { λ r. ⌜ ((l : List ℕ) → Done (edited (state desk (index (now (directory .entry)) (now (originals .entry)) (now (replicas .entry))) l) (addOf (scaleOf (desk .numbers)) (shown (desk .numbers) (index (now (directory .entry)) (now (originals .entry)) (now (replicas .entry)))) t)) r (index (now (directory .exit)) (now (originals .exit)) (now (replicas .exit))) l (now (reply .entry)) (now (reply .exit))) ⌝ }
+{
+    let numbers = desk.numbers;
+    let n = directory_words(numbers.m);
+    let outcome = edit::add(numbers, &mut directory[0..n], originals, replicas, t);
+    let written = reply::put_outcome(reply, outcome);
+    Turned {
+        desk,
+        written,
+        more: true,
+    }
+}
+
+// An X line.
+fn remove_turn(
+    desk: Desk,
+    id: u32,
+    directory: &mut [u32],
+    originals: &mut [u32],
+    replicas: &mut [u32],
+    reply: &mut [u8],
+) -> Turned
+    requires { ⌜ (desk .numbers .m ≤ deepestHere) × (directoryLength deepestHere ≤ length (now directory)) × (shortReply ≤ length (now reply)) ⌝ }
+    ensures { λ r. ⌜ ((l : List ℕ) → Done (edited (state desk (index (now (directory .entry)) (now (originals .entry)) (now (replicas .entry))) l) (removeOf (scaleOf (desk .numbers)) (shown (desk .numbers) (index (now (directory .entry)) (now (originals .entry)) (now (replicas .entry)))) id)) r (index (now (directory .exit)) (now (originals .exit)) (now (replicas .exit))) l (now (reply .entry)) (now (reply .exit))) ⌝ }
+{
+    let numbers = desk.numbers;
+    let n = directory_words(numbers.m);
+    let outcome = edit::remove(numbers, &mut directory[0..n], originals, replicas, id);
+    let written = reply::put_outcome(reply, outcome);
+    Turned {
+        desk,
+        written,
+        more: true,
+    }
+}
+
+// A Q line.
+fn ask_turn(
+    desk: Desk,
+    code: u32,
+    window: Window,
+    directory: &[u32],
+    originals: &[u32],
+    replicas: &[u32],
+    answers: &mut [u32],
+    reply: &mut [u8],
+) -> Turned
+    requires { ⌜ (desk .numbers .m ≤ deepestHere) × (directoryLength deepestHere ≤ length (now directory)) × (length (now answers) ≤ mostAnswers) × (shortReply + (mostDigits + 1) * mostAnswers ≤ length (now reply)) ⌝ }
+    ensures { λ r. ⌜ Done (answered (state desk (index (now (directory .entry)) (now (originals .entry)) (now (replicas .entry))) (now (answers .entry))) (askOf (scaleOf (desk .numbers)) (shown (desk .numbers) (index (now (directory .entry)) (now (originals .entry)) (now (replicas .entry)))) code window (now (answers .entry)))) r (index (now (directory .entry)) (now (originals .entry)) (now (replicas .entry))) (now (answers .exit)) (now (reply .entry)) (now (reply .exit)) ⌝ }
+{
+    let numbers = desk.numbers;
+    let n = directory_words(numbers.m);
+    let asked = ask::ask(
+        numbers,
+        &directory[0..n],
+        originals,
+        replicas,
+        code,
+        window,
+        answers,
+    );
+    let outcome = asked.outcome;
+    let count = asked.count as usize;
+    match outcome {
+        Outcome::Accepted => {
+            let listed = reply::put_answer(reply, &answers[0..count]);
+            return Turned {
+                desk,
+                written: listed,
+                more: true,
+            };
+        }
+        Outcome::Refused {
+            refusal: _,
+            detail: _,
+        } => {
+            let refused = reply::put_outcome(reply, outcome);
+            return Turned {
+                desk,
+                written: refused,
+                more: true,
+            };
+        }
+    }
+}
+
+// A D line, which is the first: a second one is malformed, and so is one with too deep a level.
+fn open_line(
+    desk: Desk,
+    w: u32,
+    m: u32,
+    directory: &mut [u32],
+    originals: &mut [u32],
+    replicas: &mut [u32],
+    reply: &mut [u8],
+) -> Turned
+    requires { ⌜ (directoryLength deepestHere ≤ length (now directory)) × (shortReply ≤ length (now reply)) ⌝ }
+    ensures { λ r. ⌜ ((l : List ℕ) → Done (turnOf (state desk (index (now (directory .entry)) (now (originals .entry)) (now (replicas .entry))) l) (Ruler w m)) r (index (now (directory .exit)) (now (originals .exit)) (now (replicas .exit))) l (now (reply .entry)) (now (reply .exit))) ⌝ }
+{
+    if desk.started | (DEEPEST_HERE < m) {
+        return bad_turn(desk, reply);
+    }
+    let numbers = Numbers { w, m };
+    open_turn(desk, numbers, directory, originals, replicas, reply)
+}
+
+// A T line, after a D line.
+fn add_line(
+    desk: Desk,
+    id: u32,
+    start: u32,
+    end: u32,
+    directory: &mut [u32],
+    originals: &mut [u32],
+    replicas: &mut [u32],
+    reply: &mut [u8],
+) -> Turned
+    requires { ⌜ (desk .numbers .m ≤ deepestHere) × (directoryLength deepestHere ≤ length (now directory)) × (shortReply ≤ length (now reply)) ⌝ }
+    ensures { λ r. ⌜ ((l : List ℕ) → Done (turnOf (state desk (index (now (directory .entry)) (now (originals .entry)) (now (replicas .entry))) l) (Add id start end)) r (index (now (directory .exit)) (now (originals .exit)) (now (replicas .exit))) l (now (reply .entry)) (now (reply .exit))) ⌝ }
+{
+    if !desk.started {
+        return bad_turn(desk, reply);
+    }
+    let t = Trip {
+        id,
+        start: Time::at(start),
+        end: Time::at(end),
+    };
+    add_turn(desk, t, directory, originals, replicas, reply)
+}
+
+// An X line, after a D line.
+fn remove_line(
+    desk: Desk,
+    id: u32,
+    directory: &mut [u32],
+    originals: &mut [u32],
+    replicas: &mut [u32],
+    reply: &mut [u8],
+) -> Turned
+    requires { ⌜ (desk .numbers .m ≤ deepestHere) × (directoryLength deepestHere ≤ length (now directory)) × (shortReply ≤ length (now reply)) ⌝ }
+    ensures { λ r. ⌜ ((l : List ℕ) → Done (turnOf (state desk (index (now (directory .entry)) (now (originals .entry)) (now (replicas .entry))) l) (Remove id)) r (index (now (directory .exit)) (now (originals .exit)) (now (replicas .exit))) l (now (reply .entry)) (now (reply .exit))) ⌝ }
+{
+    if !desk.started {
+        return bad_turn(desk, reply);
+    }
+    remove_turn(desk, id, directory, originals, replicas, reply)
+}
+
+// A Q line, after a D line.
+fn ask_line(
+    desk: Desk,
+    code: u32,
+    start: u32,
+    end: u32,
+    directory: &[u32],
+    originals: &[u32],
+    replicas: &[u32],
+    answers: &mut [u32],
+    reply: &mut [u8],
+) -> Turned
+    requires { ⌜ (desk .numbers .m ≤ deepestHere) × (directoryLength deepestHere ≤ length (now directory)) × (length (now answers) ≤ mostAnswers) × (shortReply + (mostDigits + 1) * mostAnswers ≤ length (now reply)) ⌝ }
+    ensures { λ r. ⌜ Done (turnOf (state desk (index (now (directory .entry)) (now (originals .entry)) (now (replicas .entry))) (now (answers .entry))) (Ask code start end)) r (index (now (directory .entry)) (now (originals .entry)) (now (replicas .entry))) (now (answers .exit)) (now (reply .entry)) (now (reply .exit)) ⌝ }
+{
+    if !desk.started {
+        return bad_turn(desk, reply);
+    }
+    let window = Window {
+        start: Time::at(start),
+        end: Time::at(end),
+    };
+    ask_turn(
+        desk,
+        code,
+        window,
+        directory,
+        originals,
+        replicas,
+        answers,
+        reply,
+    )
+}
+
+// The turn of a line, given without its newline.
+pub fn turn(
+    desk: Desk,
+    line: &[u8],
+    directory: &mut [u32],
+    originals: &mut [u32],
+    replicas: &mut [u32],
+    answers: &mut [u32],
+    reply: &mut [u8],
+) -> Turned
+    requires { ⌜ (desk .numbers .m ≤ deepestHere) × (directoryLength deepestHere ≤ length (now directory)) × (length (now answers) ≤ mostAnswers) × (shortReply + (mostDigits + 1) * mostAnswers ≤ length (now reply)) ⌝ }
+    ensures { λ r. ⌜ Done (turnOf (state desk (index (now (directory .entry)) (now (originals .entry)) (now (replicas .entry))) (now (answers .entry))) (commandOf (now (line .entry)))) r (index (now (directory .exit)) (now (originals .exit)) (now (replicas .exit))) (now (answers .exit)) (now (reply .entry)) (now (reply .exit)) ⌝ }
+{
+    let command = text::command_of(line);
+    match command {
+        Command::Bad => bad_turn(desk, reply),
+        Command::Ruler { w, m } => { open_line(desk, w, m, directory, originals, replicas, reply) }
+        Command::Add { id, start, end } => {
+            add_line(desk, id, start, end, directory, originals, replicas, reply)
+        }
+        Command::Remove { id } => { remove_line(desk, id, directory, originals, replicas, reply) }
+        Command::Ask { code, start, end } => ask_line(
+            desk,
+            code,
+            start,
+            end,
+            directory,
+            originals,
+            replicas,
+            answers,
+            reply,
+        ),
+    }
+}
