@@ -2,12 +2,12 @@
 use mathlib.Core.Path.{_≡_, sym, ap, _∙_}
 use mathlib.Core.Bool.{Bool, true}
 use mathlib.Core.List.{[]}
-use Prim.Native.Nat.{ℕ, _*_, _^_, _≤_, _<_}
+use Prim.Native.Nat.{ℕ, _+_, _*_, _^_, _≤_, _<_}
 use native.Mathlib.Omega.{arith}
-use lib.ListN.{getD}
+use lib.ListN.{length, getD}
 use Rattle.lists.proofs.Tests.{of-T}
 use Rattle.ruler.specs.declared.Numbers.{Numbers}
-use Rattle.ruler.specs.Ruler.{deepest, inBounds, scaleOf}
+use Rattle.ruler.specs.Ruler.{deepest, mostTrips, inBounds, scaleOf}
 use Rattle.ruler.proofs.Fair.{bounds}
 use Rattle.layout.specs.declared.Half.{Half}
 use Rattle.layout.specs.declared.Subdivision.{Subdivision}
@@ -17,14 +17,14 @@ use Rattle.layout.specs.declared.Outcome.{Outcome}
 use Rattle.layout.specs.declared.Outcome.the-variants.{Accepted, Refused}
 use Rattle.layout.specs.Words.{entryWords, Index}
 use Rattle.layout.specs.Answers.{halfOf, subdivisionNumbered, runWords, runFrom}
-use Rattle.layout.specs.Refusals.{refuse, noSuchSlot, tableOf, checkOutcome, runOutcome}
+use Rattle.layout.specs.Refusals.{mostPartitions, refuse, noSuchSlot, tableOf, checkOutcome, runOutcome}
 use Rattle.layout.specs.Calls.{noCensus, censusOf, runOf, runFromOf}
 use Rattle.layout.proofs.Indexes.{Indexed}
 use Rattle.layout.proofs.Checked.{checked}
 use Rattle.layout.proofs.Viewed.{census-accepted, census-refused, run-unchecked, run-checked, Runnable, of-run, run-accepted, run-refused, run-from-accepted, run-from-refused}
 use Rattle.view.specs.Directory.{slotAt, arenaOf, rowsOf, partOf, Halves, SlotIn}
 use Rattle.view.proofs.Places.{few-words, slot-fits}
-use Rattle.view.proofs.Readings.{halves, rows-read, run-read, run-from-read, slot-in}
+use Rattle.view.proofs.Readings.{halves, rows-read, run-read, run-from-read, run-few, slot-in}
 
 -- the numbers of an index are in bounds
 good-numbers : (n : Numbers) (x : Index) → Indexed (scaleOf n) x → inBounds n ≡ true
@@ -71,6 +71,13 @@ module _ (n : Numbers) (x : Index) (L i d : ℕ) (o : Outcome) (e : o ≡ runOut
 
   pub run-from-none : (why : Refusal) (k : ℕ) → o ≡ Refused why k → 0 ≡ runFromOf (scaleOf n) x L i d
   run-from-none why k r = sym (run-from-refused (scaleOf n) x L i d why k (sym e ∙ r))
+
+  -- where an accepted run ends: a word that 32 bits can tell
+  pub run-ends : o ≡ Accepted → runFromOf (scaleOf n) x L i d + length (runOf (scaleOf n) x L i d) ≤ entryWords * (mostTrips * mostPartitions)
+  run-ends a =
+      let t = of-run (scaleOf n) x L i d (sym e ∙ a) in
+      rw (run-accepted (scaleOf n) x L i d (sym e ∙ a), run-from-accepted (scaleOf n) x L i d (sym e ∙ a))
+      (run-few (scaleOf n) x (t .is-index) L i (subdivisionNumbered d) (t .deep) (t .there))
 
   module _ (a : o ≡ Accepted) where
     told : Runnable (scaleOf n) x L i d

@@ -9,7 +9,7 @@ use lib.ListN.{length, getD, take, drop, length-append}
 use borrow.Author.Tests.{leb-true}
 use Rattle.lists.specs.Lists.{joined}
 use Rattle.lists.proofs.Upto.{upTo-ext}
-use Rattle.ruler.specs.Ruler.{Scale, deepest}
+use Rattle.ruler.specs.Ruler.{Scale, deepest, mostTrips}
 use Rattle.trip.specs.declared.Trip.{Trip}
 use Rattle.layout.specs.declared.Half.{Half}
 use Rattle.layout.specs.declared.Half.the-variants.{Originals, Replicas}
@@ -17,11 +17,12 @@ use Rattle.layout.specs.declared.Subdivision.{Subdivision}
 use Rattle.layout.specs.declared.Subdivision.the-variants.{OIn, OAft, RIn, RAft}
 use Rattle.layout.specs.Stored.{partitionsAt}
 use Rattle.layout.specs.Words.{entryWords, words, partitions, halfLength, slotNumber, slotTrips, slot, entriesBefore, entries, arena, Index, lengthsOf}
-use Rattle.layout.specs.Refusals.{tableOf}
+use Rattle.layout.specs.Refusals.{mostPartitions, tableOf}
 use Rattle.layout.specs.Answers.{halfOf, isAft, levelCount, levelRow, census, runWords, runFrom}
 use Rattle.layout.proofs.Subdivisions.{of-half-and-side}
-use Rattle.layout.proofs.Rows.{words-le}
+use Rattle.layout.proofs.Rows.{words-le, words-length}
 use Rattle.layout.proofs.Indexes.{Indexed}
+use Rattle.layout.proofs.RoomAdded.{entries-most}
 use Rattle.layout.proofs.Reading.{slot-numbered, slot-inside, slots-apart, before-more, before-le, slot-part, originals-are, replicas-are, originals-word, replicas-word}
 use Rattle.view.specs.Directory.{halfFrom, slotAt, arenaOf, everySecond, countOf, rowOf, rowsOf, partOf, Halves, SlotIn}
 use Rattle.view.proofs.Places.{half-fits, slot-fits}
@@ -121,6 +122,21 @@ module _ (s : Scale) (x : Index) (w : Indexed s x) where
           low = omega (arith, slot-word, slot-next, before-more s h trips k);
           high = rw slot-next (omega (arith, few, arena-long h));
         }
+
+    -- a run ends within the entries of the most trips in the most partitions each
+    pub run-few : runFrom s trips L i d + length (runWords s trips L i d) ≤ entryWords * (mostTrips * mostPartitions)
+    unfolding runFrom runWords entryWords
+    run-few =
+        let h = halfOf d in
+        let k = slotNumber L i (isAft d) in
+        omega (
+          arith,
+          before-more s h trips k,
+          ap length slot-is,
+          words-length (slotTrips s d L i trips),
+          before-le s h trips (k + 1) (omega (arith, inside)),
+          entries-most s h trips (lengthsOf x) (w .table),
+        )
 
   -- ---- the census
 

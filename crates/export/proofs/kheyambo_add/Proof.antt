@@ -1,0 +1,44 @@
+-- The outcome of the entry, in numbers.
+use Rattle.export.specs.Said.{addSaid}
+use Rattle.export.proofs.Thin.{left-so}
+use borrow.Author.Needs.{needs}
+use Rattle.export.proofs.kheyambo_add.Statement.{statement}
+use Rattle.export.proofs.kheyambo_add.Tie as tie
+
+at-requires : tie.Need-at-requires
+at-requires c κs = search needs
+
+at-requires-2 : tie.Need-at-requires-2
+at-requires-2 c κs = search needs
+
+add-requires : tie.Need-add-requires
+add-requires c κs = search needs
+
+in-numbers-requires : tie.Need-in-numbers-requires
+in-numbers-requires c κs = search needs
+
+same-length : tie.Need-same-length
+same-length c = search needs
+
+same-length-2 : tie.Need-same-length-2
+same-length-2 c = search needs
+
+same-length-3 : tie.Need-same-length-3
+same-length-3 c = search needs
+
+returns : tie.Need-returns
+unfolding addSaid
+returns c = left-so (c .in-numbers .ensures) (rw (c .before .before .before .before .before .before .before .before .before .before .before .before .at .ensures, c .before .before .before .before .before .before .before .before .before .before .before .at2 .ensures) at (c .before .before .before .before .before .before .before .add .ensures))
+
+pub kheyambo-add-spec : {M : Type 1} → statement M
+kheyambo-add-spec =
+    tie.close
+    (tie.spec
+    at-requires
+    at-requires-2
+    add-requires
+    in-numbers-requires
+    same-length
+    same-length-2
+    same-length-3
+    returns)
