@@ -1,5 +1,6 @@
 // The answers: each makes its call on buffers of the right lengths and writes the line.
 use crate::print;
+use crate::print::ROOM;
 use layout::Outcome;
 use ruler::Numbers;
 use ruler::Time;
@@ -8,12 +9,10 @@ use trip::Window;
 use view::LEVELS;
 use view::SUBDIVISIONS;
 ghost use Prim.Native.Nat.{_≤_};
-ghost use lib.ListN.{length};
 
 // The number and the detail of an outcome, and after them a space or a newline.
-fn put_outcome(out: &mut [u8], outcome: Outcome, after: u8) -> usize
-    requires { do ⌜ (← ⟦print::SPARE⟧) ≤ length (now out) ⌝ }
-    ensures { λ r. ⌜ r ≤ length (now (out .exit)) ⌝ }
+fn put_outcome(out: &mut [u8; ROOM], outcome: Outcome, after: u8) -> usize
+    ensures { λ r. do ⌜ r ≤ (← ⟦ROOM⟧ .entry) ⌝ }
 {
     let held = print::number(out, 0, layout::number_of(outcome), b' ');
     print::number(out, held, layout::detail_of(outcome), after)
@@ -21,14 +20,12 @@ fn put_outcome(out: &mut [u8], outcome: Outcome, after: u8) -> usize
 
 // The outcome of a call, and the words of the index after it.
 fn put_index(
-    out: &mut [u8],
+    out: &mut [u8; ROOM],
     outcome: Outcome,
     directory: &[u32],
     originals: &[u32],
     replicas: &[u32],
-)
-    requires { do ⌜ (← ⟦print::SPARE⟧) ≤ length (now out) ⌝ }
-{
+) {
     let head = put_outcome(out, outcome, b' ');
     let d = print::words(out, head, directory, b' ');
     let o = print::words(out, d, originals, b' ');
@@ -42,10 +39,8 @@ pub fn build_answer(
     directory: &mut [u32],
     originals: &mut [u32],
     replicas: &mut [u32],
-    out: &mut [u8],
-)
-    requires { do ⌜ (← ⟦print::SPARE⟧) ≤ length (now out) ⌝ }
-{
+    out: &mut [u8; ROOM],
+) {
     let outcome = build::build(numbers, table, directory, originals, replicas);
     put_index(out, outcome, directory, originals, replicas);
 }
@@ -55,10 +50,8 @@ pub fn check_answer(
     directory: &[u32],
     originals: &[u32],
     replicas: &[u32],
-    out: &mut [u8],
-)
-    requires { do ⌜ (← ⟦print::SPARE⟧) ≤ length (now out) ⌝ }
-{
+    out: &mut [u8; ROOM],
+) {
     let outcome = verify::check(numbers, directory, originals, replicas);
     let held = put_outcome(out, outcome, b'\n');
     print::flush(out, held);
@@ -72,10 +65,8 @@ pub fn add_answer(
     directory: &mut [u32],
     originals: &mut [u32],
     replicas: &mut [u32],
-    out: &mut [u8],
-)
-    requires { do ⌜ (← ⟦print::SPARE⟧) ≤ length (now out) ⌝ }
-{
+    out: &mut [u8; ROOM],
+) {
     let t = Trip {
         id,
         start: Time::at(start),
@@ -91,10 +82,8 @@ pub fn remove_answer(
     directory: &mut [u32],
     originals: &mut [u32],
     replicas: &mut [u32],
-    out: &mut [u8],
-)
-    requires { do ⌜ (← ⟦print::SPARE⟧) ≤ length (now out) ⌝ }
-{
+    out: &mut [u8; ROOM],
+) {
     let outcome = edit::remove(numbers, directory, originals, replicas, id);
     put_index(out, outcome, directory, originals, replicas);
 }
@@ -108,10 +97,8 @@ pub fn ask_answer(
     originals: &[u32],
     replicas: &[u32],
     answers: &mut [u32],
-    out: &mut [u8],
-)
-    requires { do ⌜ (← ⟦print::SPARE⟧) ≤ length (now out) ⌝ }
-{
+    out: &mut [u8; ROOM],
+) {
     let window = Window {
         start: Time::at(start),
         end: Time::at(end),
@@ -140,10 +127,8 @@ pub fn run_answer<'a>(
     directory: &[u32],
     originals: &'a [u32],
     replicas: &'a [u32],
-    out: &mut [u8],
-)
-    requires { do ⌜ (← ⟦print::SPARE⟧) ≤ length (now out) ⌝ }
-{
+    out: &mut [u8; ROOM],
+) {
     let outcome = view::run_outcome(
         numbers,
         directory,
@@ -172,10 +157,8 @@ pub fn census_answer(
     directory: &[u32],
     originals: &[u32],
     replicas: &[u32],
-    out: &mut [u8],
-)
-    requires { do ⌜ (← ⟦print::SPARE⟧) ≤ length (now out) ⌝ }
-{
+    out: &mut [u8; ROOM],
+) {
     let outcome = view::census_outcome(numbers, directory, originals, replicas);
     let rows = view::census(numbers, directory, originals, replicas);
     let head = put_outcome(out, outcome, b' ');
@@ -184,9 +167,9 @@ pub fn census_answer(
 }
 
 // The counts of a level, with `after` after the last.
-fn put_row(out: &mut [u8], from: usize, row: [u32; SUBDIVISIONS], after: u8) -> usize
-    requires { do ⌜ (from ≤ length (now out)) × ((← ⟦print::SPARE⟧) ≤ length (now out)) ⌝ }
-    ensures { λ r. ⌜ r ≤ length (now (out .exit)) ⌝ }
+fn put_row(out: &mut [u8; ROOM], from: usize, row: [u32; SUBDIVISIONS], after: u8) -> usize
+    requires { do ⌜ from ≤ (← ⟦ROOM⟧) ⌝ }
+    ensures { λ r. do ⌜ r ≤ (← ⟦ROOM⟧ .entry) ⌝ }
 {
     let first = print::number(out, from, row[0], b' ');
     let second = print::number(out, first, row[1], b' ');
@@ -195,9 +178,9 @@ fn put_row(out: &mut [u8], from: usize, row: [u32; SUBDIVISIONS], after: u8) -> 
 }
 
 // The rows of a census, one after another.
-fn put_rows(out: &mut [u8], from: usize, rows: [[u32; SUBDIVISIONS]; LEVELS]) -> usize
-    requires { do ⌜ (from ≤ length (now out)) × ((← ⟦print::SPARE⟧) ≤ length (now out)) ⌝ }
-    ensures { λ r. ⌜ r ≤ length (now (out .exit)) ⌝ }
+fn put_rows(out: &mut [u8; ROOM], from: usize, rows: [[u32; SUBDIVISIONS]; LEVELS]) -> usize
+    requires { do ⌜ from ≤ (← ⟦ROOM⟧) ⌝ }
+    ensures { λ r. do ⌜ r ≤ (← ⟦ROOM⟧ .entry) ⌝ }
 {
     let mut held = from;
     let mut level: usize = 0;

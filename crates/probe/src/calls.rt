@@ -1,6 +1,6 @@
 // The calls of the port: each reads its numbers and buffers, and has the answer written where the line is a call.
 use crate::answers;
-use crate::print;
+use crate::print::ROOM;
 use crate::scan;
 use ruler::Numbers;
 ghost use Prim.Native.Nat.{_≤_};
@@ -71,7 +71,9 @@ fn index_at(
     originals: &mut [u32],
     replicas: &mut [u32],
 ) -> IndexFields
-    ensures { λ r. ⌜ (r .directory ≤ length (now (directory .exit))) × (r .originals ≤ length (now (originals .exit))) × (r .replicas ≤ length (now (replicas .exit))) ⌝ }
+    ensures { λ r. ⌜ r .directory ≤ length (now (directory .exit)) ⌝ }
+    ensures { λ r. ⌜ r .originals ≤ length (now (originals .exit)) ⌝ }
+    ensures { λ r. ⌜ r .replicas ≤ length (now (replicas .exit)) ⌝ }
 {
     let d = scan::words_at(line, at, directory);
     let o = scan::words_at(line, d.next, originals);
@@ -92,10 +94,8 @@ fn build_call(
     directory: &mut [u32],
     originals: &mut [u32],
     replicas: &mut [u32],
-    out: &mut [u8],
-) -> bool
-    requires { do ⌜ (← ⟦print::SPARE⟧) ≤ length (now out) ⌝ }
-{
+    out: &mut [u8; ROOM],
+) -> bool {
     let named = ruler_at(line, at);
     let rows = scan::words_at(line, named.next, table);
     let lent = index_at(line, rows.next, directory, originals, replicas);
@@ -125,10 +125,8 @@ fn check_call(
     directory: &mut [u32],
     originals: &mut [u32],
     replicas: &mut [u32],
-    out: &mut [u8],
-) -> bool
-    requires { do ⌜ (← ⟦print::SPARE⟧) ≤ length (now out) ⌝ }
-{
+    out: &mut [u8; ROOM],
+) -> bool {
     let named = ruler_at(line, at);
     let lent = index_at(line, named.next, directory, originals, replicas);
     if !scan::is_whole(line, lent.next) {
@@ -155,10 +153,8 @@ fn add_call(
     directory: &mut [u32],
     originals: &mut [u32],
     replicas: &mut [u32],
-    out: &mut [u8],
-) -> bool
-    requires { do ⌜ (← ⟦print::SPARE⟧) ≤ length (now out) ⌝ }
-{
+    out: &mut [u8; ROOM],
+) -> bool {
     let named = ruler_at(line, at);
     let three = three_at(line, named.next);
     let lent = index_at(line, three.next, directory, originals, replicas);
@@ -189,10 +185,8 @@ fn remove_call(
     directory: &mut [u32],
     originals: &mut [u32],
     replicas: &mut [u32],
-    out: &mut [u8],
-) -> bool
-    requires { do ⌜ (← ⟦print::SPARE⟧) ≤ length (now out) ⌝ }
-{
+    out: &mut [u8; ROOM],
+) -> bool {
     let named = ruler_at(line, at);
     let id = scan::number_at(line, named.next);
     let lent = index_at(line, id.next, directory, originals, replicas);
@@ -222,10 +216,8 @@ fn ask_call(
     originals: &mut [u32],
     replicas: &mut [u32],
     answers: &mut [u32],
-    out: &mut [u8],
-) -> bool
-    requires { do ⌜ (← ⟦print::SPARE⟧) ≤ length (now out) ⌝ }
-{
+    out: &mut [u8; ROOM],
+) -> bool {
     let named = ruler_at(line, at);
     let three = three_at(line, named.next);
     let lent = index_at(line, three.next, directory, originals, replicas);
@@ -259,10 +251,8 @@ fn run_call(
     directory: &mut [u32],
     originals: &mut [u32],
     replicas: &mut [u32],
-    out: &mut [u8],
-) -> bool
-    requires { do ⌜ (← ⟦print::SPARE⟧) ≤ length (now out) ⌝ }
-{
+    out: &mut [u8; ROOM],
+) -> bool {
     let named = ruler_at(line, at);
     let three = three_at(line, named.next);
     let lent = index_at(line, three.next, directory, originals, replicas);
@@ -293,10 +283,8 @@ fn census_call(
     directory: &mut [u32],
     originals: &mut [u32],
     replicas: &mut [u32],
-    out: &mut [u8],
-) -> bool
-    requires { do ⌜ (← ⟦print::SPARE⟧) ≤ length (now out) ⌝ }
-{
+    out: &mut [u8; ROOM],
+) -> bool {
     let named = ruler_at(line, at);
     let lent = index_at(line, named.next, directory, originals, replicas);
     if !scan::is_whole(line, lent.next) {
@@ -364,11 +352,9 @@ pub fn answer(
     originals: &mut [u32],
     replicas: &mut [u32],
     answers: &mut [u32],
-    out: &mut [u8],
-) -> bool
-    requires { do ⌜ (← ⟦print::SPARE⟧) ≤ length (now out) ⌝ }
-{
-    let end = text::field_end(line, 0);
+    out: &mut [u8; ROOM],
+) -> bool {
+    let end = scan::field_end(line, 0);
     let name = name_of(&line[0..end]);
     let at = end + 1;
     match name {

