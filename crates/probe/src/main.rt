@@ -117,9 +117,9 @@ fn take_chunk(
     replicas: &mut [u32; REPLICAS],
     answers: &mut [u32; ANSWERS],
     out: &mut [u8; ROOM],
-) -> usize
+) -> Standing
     requires { do ⌜ from ≤ (← ⟦LINE⟧) ⌝ }
-    ensures { λ r. do ⌜ r ≤ (← ⟦LINE⟧ .entry) ⌝ }
+    ensures { λ r. do ⌜ r .held ≤ (← ⟦LINE⟧ .entry) ⌝ }
 {
     let mut held = from;
     let mut i: usize = 0;
@@ -137,7 +137,7 @@ fn take_chunk(
         );
         i += 1;
     }
-    held
+    Standing { held, more: true }
 }
 
 // At the end of the input: the last line may lack its newline.
@@ -200,7 +200,7 @@ fn take_some(
             out,
         );
     }
-    let left = take_chunk(
+    take_chunk(
         &input[0..got],
         line,
         held,
@@ -210,11 +210,7 @@ fn take_some(
         replicas,
         answers,
         out,
-    );
-    Standing {
-        held: left,
-        more: true,
-    }
+    )
 }
 
 // Reads the input to its end. A proved loop has to end, so it counts its turns down, from a number that no run uses up.
