@@ -1,31 +1,38 @@
 -- The words of an index: the entries between two words of the directory are those of the slots between them.
 use mathlib.Core.Path.{_≡_, refl, sym, ap, ap₂, subst, _∙_}
-use mathlib.Core.Bool.{Bool}
+use mathlib.Core.Bool.{Bool, true, false}
 use mathlib.Core.List.{List, _++_, append-assoc}
 use Prim.Native.Nat.{ℕ, zero, suc, _+_, _-_, _*_, _/_, _%_, _^_, _≤_, _<_}
 use native.Mathlib.Nat.{two-pow-succ}
 use native.Mathlib.Numerals.{add-one}
 use native.Mathlib.Omega.{arith}
-use lib.Dec.{eqb}
+use lib.Dec.{eqb, ltb}
+use borrow.Author.Tests.{lt-ltb, le-ltb}
 use lib.Pow.{pow-pos, pow-mono}
 use lib.ListN.{length, take, drop, getD, length-append, List·getD-append}
 use lib.Seq.{take-at, drop-at, getD-append-add}
 use Rattle.lists.specs.Lists.{joined, padded}
 use Rattle.lists.proofs.Joined.{joined-add}
+use Rattle.lists.proofs.Sorting.{Sorted}
+use Rattle.lists.proofs.Members.{none}
+use Rattle.lists.proofs.Halving.{in-order}
 use Rattle.lists.proofs.Upto.{getD-upTo}
 use Rattle.ruler.specs.Ruler.{Scale}
 use Rattle.trip.specs.declared.Trip.{Trip}
 use Rattle.layout.specs.declared.Half.{Half}
 use Rattle.layout.specs.declared.Half.the-variants.{Originals, Replicas}
 use Rattle.layout.specs.Stored.{subdivisionOf}
-use Rattle.layout.specs.Words.{entryWords, words, rows, partitions, partitionNumber, levelOf, placeOf, slotTrips, slot, entriesBefore, entries, halfLength, directoryHalf, arena, Index, Lengths, lengthsOf, layout}
+use Rattle.layout.specs.Words.{entryWords, words, rows, tripAt, order, partitions, partitionNumber, levelOf, placeOf, slotTrips, slot, entriesBefore, entries, halfLength, directoryHalf, arena, Index, Lengths, lengthsOf, layout}
 use Rattle.layout.specs.Refusals.{tableOf}
 use Rattle.layout.proofs.Numbers.{level-number, place-number}
-use Rattle.layout.proofs.Rows.{rows-words, words-append, words-length, words-add, words-le}
+use Rattle.layout.proofs.RowOrder.{Distinct}
+use Rattle.layout.proofs.Local.{slot-sorted}
+use Rattle.layout.proofs.Rows.{length-rows, getD-rows, rows-words, words-append, words-length, words-add, words-le}
 use Rattle.layout.proofs.Indexes.{Indexed, directoryHalf-length}
 use Rattle.ask.specs.declared.plan.Stretch.{Stretch}
 use Rattle.ask.specs.Plan.{firstSlot, stretch}
 use Rattle.ask.specs.Part.{stretchWords, There}
+use Rattle.ask.specs.Cut.{InTurn, afterIn, SlotsThere}
 use Rattle.ask.proofs.Looked.{slotFrom, slotsFrom}
 
 -- ---- a half of the directory, from the word `base` on, with its arena
@@ -133,6 +140,70 @@ module _ {s : Scale} {h : Half} {ts : List Trip} {d : List ℕ} {base : ℕ} {l 
           room = omega (arith, words-le {n = length (entriesBefore s h ts (j + c))} {k = length (entries s h ts)} (omega arith), ap (λ (q : ℕ). entryWords * q) y);
         }
 
+-- ---- the slots of a partition, in their order
+
+-- what is in order as rows is in order as words
+in-turn : (lt : Trip → Trip → Bool) (l : List ℕ) → Sorted lt (rows l) → (i k : ℕ) → i < k → k < length l / entryWords → lt (tripAt l i) (tripAt l k) ≡ true
+in-turn lt l w i k h g =
+    let n = length-rows l in
+    rw (← getD-rows l i (tripAt l 0) (omega arith), ← getD-rows l k (tripAt l 0) g) (in-order (tripAt l 0) lt w i k h (omega arith))
+
+module _ {s : Scale} {h : Half} {ts : List Trip} {d : List ℕ} {base : ℕ} {l : List ℕ} (w : Laid s h ts d base l) (distinct : Distinct ts) (sure : Bool) where
+  -- a stretch of one slot, and one of none
+  one-turns : (aft : Bool) (j : ℕ) → j + 1 ≤ 2 * partitions (s .m) → eqb (j % 2) 1 ≡ aft → InTurn h aft (stretchWords d l (stretch (base + j) (base + (j + 1)) sure))
+  unfolding joined
+  one-turns aft j in-half e =
+      let zero-more : j + 0 ≡ j = omega arith in
+      in-turn (order (subdivisionOf h aft)) _
+      (rw (slots-are w j 1 in-half sure, zero-more) (rw e at (slot-sorted s h ts distinct j)))
+
+  none-turns : (aft : Bool) (j : ℕ) → j + 0 ≤ 2 * partitions (s .m) → InTurn h aft (stretchWords d l (stretch (base + j) (base + (j + 0)) sure))
+  unfolding joined
+  none-turns aft j in-half = in-turn (order (subdivisionOf h aft)) _ (rw (slots-are w j 0 in-half sure) none)
+
+  -- the first slots of a partition: none, the "in" slot, or both
+  slots-in-turn : (j n : ℕ) → n ≤ 2 → j % 2 ≡ 0 → j + n ≤ 2 * partitions (s .m) → SlotsThere h d l (stretch (base + j) (base + (j + n)) sure)
+  slots-in-turn j zero few even in-half =
+      let same : base + (j + 0) ≡ base + j = omega arith in
+      let after : afterIn (stretch (base + j) (base + (j + 0)) sure) ≡ base + j = rw (le-ltb (base + j) (base + (j + 0)) (omega arith)) refl in
+      let here = slots-there w j 0 in-half sure in
+      let turns : (aft : Bool) → InTurn h aft (stretchWords d l (stretch (base + j) (base + j) sure)) = λ aft. rw same at (none-turns aft j in-half) in
+      record {
+        whole = here;
+        in-there = rw after (rw same at here);
+        aft-there = rw after here;
+        in-order = rw after (turns false);
+        aft-order = rw after (none-turns true j in-half);
+      }
+  slots-in-turn j (suc zero) few even in-half =
+      let next : base + (j + 1) ≡ base + j + 1 = omega arith in
+      let end : base + (j + 1 + 0) ≡ base + (j + 1) = omega arith in
+      let after : afterIn (stretch (base + j) (base + (j + 1)) sure) ≡ base + (j + 1) =
+      rw (lt-ltb (base + j) (base + (j + 1)) (omega arith)) (sym next)
+      in
+      record {
+        whole = slots-there w j 1 in-half sure;
+        in-there = rw after (slots-there w j 1 in-half sure);
+        aft-there = rw after (rw end at (slots-there w (j + 1) 0 (omega arith) sure));
+        in-order = rw after (one-turns false j in-half (rw even refl));
+        aft-order = rw after (rw end at (none-turns true (j + 1) (omega arith)));
+      }
+  slots-in-turn j (suc (suc zero)) few even in-half =
+      let next : base + (j + 1) ≡ base + j + 1 = omega arith in
+      let end : base + (j + 1 + 1) ≡ base + (j + 2) = omega arith in
+      let odd : (j + 1) % 2 ≡ 1 = omega arith in
+      let after : afterIn (stretch (base + j) (base + (j + 2)) sure) ≡ base + (j + 1) =
+      rw (lt-ltb (base + j) (base + (j + 2)) (omega arith)) (sym next)
+      in
+      record {
+        whole = slots-there w j 2 in-half sure;
+        in-there = rw after (slots-there w j 1 (omega arith) sure);
+        aft-there = rw after (rw end at (slots-there w (j + 1) 1 (omega arith) sure));
+        in-order = rw after (one-turns false j (omega arith) (rw even refl));
+        aft-order = rw after (rw end at (one-turns true (j + 1) (omega arith) (rw odd refl)));
+      }
+  slots-in-turn j (suc (suc (suc n))) few even in-half = absurd (omega arith)
+
 -- ---- the slots of a level
 
 joined-ext : {A : Type 0} (f g : ℕ → List A) (n : ℕ) → ((i : ℕ) → i < n → f i ≡ g i) → joined f n ≡ joined g n
@@ -165,3 +236,8 @@ module _ {s : Scale} {h : Half} {ts : List Trip} {d : List ℕ} {base : ℕ} {l 
 
   pub stretch-there : There d l (stretch from to sure)
   stretch-there = rw (at-from, at-to) (slots-there w (firstSlot L i) n (level-in s h ts L i n deep inside) sure)
+
+  -- and the first slots of a partition are in their order
+  pub partition-there : n ≤ 2 → Distinct ts → SlotsThere h d l (stretch from to sure)
+  unfolding firstSlot
+  partition-there few distinct = rw (at-from, at-to) (slots-in-turn w distinct sure (firstSlot L i) n few (omega arith) (level-in s h ts L i n deep inside))

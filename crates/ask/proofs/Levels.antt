@@ -17,14 +17,17 @@ use Rattle.layout.specs.declared.Half.{Half}
 use Rattle.layout.specs.declared.Half.the-variants.{Originals, Replicas}
 use Rattle.layout.specs.Words.{partitionNumber, halfLength, Index}
 use Rattle.layout.specs.Refusals.{tableOf}
+use Rattle.layout.proofs.RowOrder.{Distinct}
 use Rattle.layout.proofs.Indexes.{Indexed, of-isIndex}
 use Rattle.ask.specs.declared.plan.Plan.{Plan}
 use Rattle.ask.specs.Plan.{Ranged, originalSlots, replicaSlots, firstSlot, slotAt, sureFirst, sureLast, stretch, arranged, stretchesAt}
-use Rattle.ask.specs.Part.{keepUnless, stretchMatches, There, AllThere, levelMatches, LevelsThere, levelsMatches}
+use Rattle.ask.specs.Part.{keepUnless, stretchMatches, There}
+use Rattle.ask.specs.Cut.{SlotsThere}
+use Rattle.ask.specs.Levels.{AllThere, levelMatches, LevelsThere, levelsMatches}
 use Rattle.ask.proofs.Looked.{slotsFrom, width, lookedAt, levelWalk, walk, Ready}
 use Rattle.ask.proofs.Ranges.{few-slots, cells-ordered, high-in}
 use Rattle.ask.proofs.Sure.{three-pieces, first-sure, between-sure, last-sure, one-sure, replicas-sure}
-use Rattle.ask.proofs.Laid.{Laid, originals-laid, replicas-laid, stretch-is, stretch-there}
+use Rattle.ask.proofs.Laid.{Laid, originals-laid, replicas-laid, stretch-is, stretch-there, partition-there}
 
 none-kept : (sure : Bool) (t : Trip → Bool) → keepUnless sure t [] ≡ []
 unfolding keepUnless keep
@@ -48,6 +51,9 @@ module _ {s : Scale} {t : Trip → Bool} {p : Plan} {x : Index} (r : Ready s t p
   indexed : Indexed s x
   indexed = of-isIndex s x (to-T (r .indexed))
 
+  apart : Distinct ts
+  apart = indexed .table .rowsOk .distinct
+
   originals : Laid s Originals ts (x .directory) 0 (x .originals)
   originals = originals-laid s x indexed
 
@@ -58,6 +64,10 @@ module _ {s : Scale} {t : Trip → Bool} {p : Plan} {x : Index} (r : Ready s t p
   piece-there : (i n from to : ℕ) (sure : Bool) → 2 * i + n ≤ 2 * 2 ^ L → from ≡ firstSlot L i → to ≡ firstSlot L i + n
       → There (x .directory) (x .originals) (stretch from to sure)
   piece-there i n from to sure h f g = stretch-there originals L i n deep h sure (omega arith) (omega arith)
+
+  slots-there : (i n from to : ℕ) (sure : Bool) → n ≤ 2 → 2 * i + n ≤ 2 * 2 ^ L → from ≡ firstSlot L i → to ≡ firstSlot L i + n
+      → SlotsThere Originals (x .directory) (x .originals) (stretch from to sure)
+  slots-there i n from to sure few h f g = partition-there originals L i n deep h sure (omega arith) (omega arith) few apart
 
   piece-is : (i n from to : ℕ) (sure : Bool) → 2 * i + n ≤ 2 * 2 ^ L → from ≡ firstSlot L i → to ≡ firstSlot L i + n
       → stretchMatches t (x .directory) (x .originals) (stretch from to sure) ≡ keepUnless sure t (slotsFrom s Originals ts L i n)
@@ -77,12 +87,12 @@ module _ {s : Scale} {t : Trip → Bool} {p : Plan} {x : Index} (r : Ready s t p
         AllThere (x .directory) (x .originals) (x .replicas)
         (arranged P Q n (p .quick) (sureFirst p L) (sureLast p L) (stretch (H + P) (H + P + k) (sureFirst p L)))
 
-    copies-there : There (x .directory) (x .replicas) (stretch (H + P) (H + P + k) (sureFirst p L))
+    copies-there : SlotsThere Replicas (x .directory) (x .replicas) (stretch (H + P) (H + P + k) (sureFirst p L))
     copies-there =
         let f = few-slots (p .kind) in
         let i = high-in (r .ranged) L deep in
         let o = cells-ordered (r .ranged) L deep in
-        stretch-there replicas L a k deep (omega arith) (sureFirst p L) (omega arith) (omega arith)
+        partition-there replicas L a k deep (omega arith) (sureFirst p L) (omega arith) (omega arith) (f .1) apart
 
     arranged-there : (c : Bool) → ltb P Q ≡ c → there
     unfolding arranged firstSlot partitionNumber
@@ -91,20 +101,19 @@ module _ {s : Scale} {t : Trip → Bool} {p : Plan} {x : Index} (r : Ready s t p
         let f = few-slots (p .kind) in
         let i = high-in (r .ranged) L deep in
         rw e (record {
-          first = piece-there a 2 P (P + 2) (sureFirst p L) (omega arith) at-P (omega arith);
+          first = slots-there a 2 P (P + 2) (sureFirst p L) (omega arith) (omega arith) at-P (omega arith);
           between = piece-there (a + 1) (2 * (b - (a + 1))) (P + 2) Q (p .quick) (omega arith) (omega arith) (omega arith);
-          last = piece-there b n Q (Q + n) (sureLast p L) (omega arith) at-Q (omega arith);
+          last = slots-there b n Q (Q + n) (sureLast p L) (f .0) (omega arith) at-Q (omega arith);
           replicas = copies-there;
         })
     arranged-there false e =
         let f = few-slots (p .kind) in
         let i = high-in (r .ranged) L deep in
         let o = cells-ordered (r .ranged) L deep in
-        let none = piece-there a 0 P P (p .quick) (omega arith) at-P (omega arith) in
         rw e (record {
-          first = none;
-          between = none;
-          last = piece-there a n P (P + n) (sureFirst p L && sureLast p L) (omega arith) at-P (omega arith);
+          first = slots-there a 0 P P (p .quick) (omega arith) (omega arith) at-P (omega arith);
+          between = piece-there a 0 P P (p .quick) (omega arith) at-P (omega arith);
+          last = slots-there a n P (P + n) (sureFirst p L && sureLast p L) (f .0) (omega arith) at-P (omega arith);
           replicas = copies-there;
         })
 

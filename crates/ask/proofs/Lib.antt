@@ -5,6 +5,8 @@ pub mod Turns
 pub mod Looked
 pub mod Walked
 pub mod Sure
+pub mod Searched
+pub mod TwoSlots
 pub mod Laid
 pub mod Levels
 pub mod Suited

@@ -34,7 +34,7 @@ use Rattle.ask.specs.declared.bounds.Bounds.{Bounds}
 use Rattle.ask.specs.declared.plan.Plan.{Plan}
 use Rattle.ask.specs.Bounds.{far, inside, boundsOf}
 use Rattle.ask.specs.Plan.{planFor}
-use Rattle.ask.specs.Part.{LevelsThere, levelsMatches}
+use Rattle.ask.specs.Levels.{LevelsThere, levelsMatches}
 use Rattle.ask.specs.Chain.{OnRuler}
 use Rattle.ask.proofs.Inside.{inside-related}
 use Rattle.ask.proofs.Looked.{Ready, walk}

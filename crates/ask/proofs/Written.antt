@@ -6,7 +6,7 @@ use Prim.Native.Nat.{ℕ, suc, _+_, _-_, _≤_, _<_}
 use native.Mathlib.Numerals.{add-one}
 use native.Mathlib.Omega.{arith}
 use lib.ListN.{length, take, drop, getD, set, length-append, length-drop, length-map, drop-of-length-le}
-use lib.Seq.{take-all, drop-cons, drop-drop, take-at, drop-at, set-at}
+use lib.Seq.{take-all, drop-cons, drop-drop, take-at, drop-at, set-at, length-take-le}
 use Rattle.trip.specs.declared.Trip.{Trip}
 use Rattle.layout.specs.Answers.{over}
 use Rattle.layout.proofs.Edits.{idOf}
@@ -92,3 +92,30 @@ front-room ts us h = omega (arith, length-append ts us)
 
 pub listed-none : (old : List ℕ) → Listed [] old old 0
 listed-none old = record { counted = refl; written = sym (over-none old) }
+
+-- ---- ids listed from n on, and then more after them
+
+module _ {n k : ℕ} {ts : List Trip} {old mid : List ℕ} (one : ListedFrom n ts old mid k) where
+  from-length : n + length ts ≤ length old → length mid ≡ length old
+  from-length h =
+      let rest = over-length (ids ts) (drop n old) (rw (ids-length, length-drop) (omega arith)) in
+      ap length (one .written) ∙ length-append (take n old) _ ∙ rw (length-take-le n old (omega arith), rest, length-drop) (omega arith)
+
+  pub from-room : (us : List Trip) → n + length (ts ++ us) ≤ length old → k + length us ≤ length mid
+  from-room us h = let a = length-append ts us in omega (arith, one .counted, from-length (omega arith))
+
+  pub from-more : n + length ts ≤ length old → {us : List Trip} {new : List ℕ} {r : ℕ} → ListedFrom k us mid new r → ListedFrom n (ts ++ us) old new r
+  unfolding over
+  from-more h {us} two =
+      let a = take n old in
+      let b = ids ts in
+      let x = drop n old in
+      let mid-is : mid ≡ (a ++ b) ++ drop (length b) x = one .written ∙ sym (append-assoc a b (drop (length b) x)) in
+      let k-is : length (a ++ b) ≡ k =
+      rw (length-append, length-take-le n old (omega arith), ids-length) (sym (one .counted))
+      in
+      record {
+        counted = omega (arith, one .counted, two .counted, length-append ts us);
+        written = two .written
+            ∙ rw (mid-is, take-at (a ++ b) (drop (length b) x) k k-is, drop-at (a ++ b) (drop (length b) x) k k-is, ids-append, length-append, drop-drop, append-assoc, append-assoc) refl;
+      }

@@ -1,4 +1,6 @@
 pub mod Bounds
 pub mod Plan
 pub mod Part
+pub mod Cut
+pub mod Levels
 pub mod Chain

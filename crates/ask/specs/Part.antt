@@ -4,15 +4,12 @@ use mathlib.Core.Bool.{Bool, cond}
 use mathlib.Core.List.{List, _++_}
 use Prim.Native.Nat.{ℕ, _+_, _-_, _*_, _≤_, _<_}
 use lib.ListN.{length, getD, take, drop}
-use Rattle.lists.specs.Lists.{keep, joined}
+use Rattle.lists.specs.Lists.{keep}
 use Rattle.trip.specs.declared.Trip.{Trip}
 use Rattle.layout.specs.Words.{entryWords, rows}
 use Rattle.layout.specs.Answers.{over}
 use Rattle.store.specs.Entries.{ids}
-use Rattle.ask.specs.declared.plan.Plan.{Plan}
 use Rattle.ask.specs.declared.plan.Stretch.{Stretch}
-use Rattle.ask.specs.declared.plan.Stretches.{Stretches}
-use Rattle.ask.specs.Plan.{Ranged, stretchesAt}
 
 -- those of a list that pass the test; the whole list, untested, where it is known that all pass
 unfoldable pub keepUnless : (sure : Bool) → (Trip → Bool) → List Trip → List Trip
@@ -43,22 +40,3 @@ pub record There (directory arena : List ℕ) (s : Stretch) : Type 0 where
   pub to-in : s .to < length directory
   pub rises : getD directory (s .from) 0 ≤ getD directory (s .to) 0
   pub room : entryWords * getD directory (s .to) 0 ≤ length arena
-
--- the stretches of a level, in a directory d: three of the originals o and one of the replicas r
-pub record AllThere (d o r : List ℕ) (s : Stretches) : Type 0 where
-  pub first : There d o (s .first)
-  pub between : There d o (s .between)
-  pub last : There d o (s .last)
-  pub replicas : There d r (s .replicas)
-
-unfoldable pub levelMatches : (Trip → Bool) → (directory originals replicas : List ℕ) → Stretches → List Trip
-levelMatches t d o r s =
-    ((stretchMatches t d o (s .first) ++ stretchMatches t d o (s .between)) ++ stretchMatches t d o (s .last)) ++ stretchMatches t d r (s .replicas)
-
--- all levels of a plan are there; and the matches of n of them, from the deepest up
-pub record LevelsThere (d o r : List ℕ) (p : Plan) : Type 0 where
-  pub ranged : Ranged (p .low .0) p
-  pub there : (L : ℕ) → L ≤ p .low .0 → AllThere d o r (stretchesAt p L)
-
-unfoldable pub levelsMatches : (Trip → Bool) → (directory originals replicas : List ℕ) → Plan → (n : ℕ) → List Trip
-levelsMatches t d o r p n = joined (λ up. levelMatches t d o r (stretchesAt p (p .low .0 - up))) n

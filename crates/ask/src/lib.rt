@@ -1,7 +1,10 @@
 // Questions on the words of an index: the ids of the trips to which a window stands in a named relationship.
 pub mod bounds;
+pub mod cut;
 pub mod part;
+pub mod partition;
 pub mod plan;
+pub mod stretch;
 pub mod walk;
 
 use bounds::Bounds;
@@ -30,7 +33,7 @@ ghost use Rattle.layout.specs.Answers.{answer};
 ghost use Rattle.layout.specs.Refusals.{tableOf, isIndex, roomTest};
 ghost use Rattle.layout.specs.Calls.{index, asked, askOf};
 ghost use Rattle.ask.specs.Bounds.{inside};
-ghost use Rattle.ask.specs.Part.{LevelsThere, levelsMatches};
+ghost use Rattle.ask.specs.Levels.{LevelsThere, levelsMatches};
 ghost use Rattle.ask.specs.Chain.{OnRuler, listedOf, answerOf};
 
 // What a question answers: the outcome, and how many ids it listed.

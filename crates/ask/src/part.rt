@@ -12,7 +12,7 @@ ghost use Rattle.ask.specs.Bounds.{inside};
 ghost use Rattle.ask.specs.Part.{keepUnless, Listed};
 
 // How many entries of a part match.
-fn count_tested(bounds: Bounds, part: &[u32]) -> usize
+pub fn count_tested(bounds: Bounds, part: &[u32]) -> usize
     ensures { λ r. ⌜ r ≡ length (keep (inside bounds) (rows (now (part .entry)))) ⌝ }
 {
     let n = part.len() / ENTRY_WORDS;
@@ -28,7 +28,7 @@ fn count_tested(bounds: Bounds, part: &[u32]) -> usize
 }
 
 // Writes the ids of those that match to the front of a list, and says how many they are.
-fn list_tested(bounds: Bounds, part: &[u32], out: &mut [u32]) -> usize
+pub fn list_tested(bounds: Bounds, part: &[u32], out: &mut [u32]) -> usize
     requires { ⌜ length (keep (inside bounds) (rows (now part))) ≤ length (now out) ⌝ }
     ensures { λ r. ⌜ Listed (keep (inside bounds) (rows (now (part .entry)))) (now (out .entry)) (now (out .exit)) r ⌝ }
 {

@@ -1,61 +1,20 @@
 // The walk over the levels of an index, which counts the matches of a plan or lists their ids.
 use crate::bounds::Bounds;
-use crate::part::count_part;
-use crate::part::list_part;
+use crate::partition::count_partition;
+use crate::partition::list_partition;
 use crate::plan::Plan;
-use crate::plan::Stretch;
 use crate::plan::Stretches;
 use crate::plan::stretches_at;
-use layout::ENTRY_WORDS;
+use crate::stretch::count_stretch;
+use crate::stretch::list_stretch;
+use layout::Half;
 ghost use mathlib.Core.Path.{_≡_};
-ghost use mathlib.Core.List.{List};
 ghost use Prim.Native.Nat.{_≤_, _+_};
 ghost use lib.ListN.{length};
 ghost use Rattle.ruler.specs.Ruler.{mostTrips};
 ghost use Rattle.ask.specs.Bounds.{inside};
-ghost use Rattle.ask.specs.Part.{Listed, ListedFrom, There, AllThere, LevelsThere, stretchMatches, levelMatches, levelsMatches};
-
-// How many entries of a stretch match.
-fn count_stretch(bounds: Bounds, stretch: Stretch, directory: &[u32], arena: &[u32]) -> usize
-    requires { ⌜ There (now directory) (now arena) stretch ⌝ }
-    ensures { λ r. ⌜ r ≡ length (stretchMatches (inside bounds) (now (directory .entry)) (now (arena .entry)) stretch) ⌝ }
-{
-    let from = stretch.from;
-    let to = stretch.to;
-    let a = directory[from] as usize;
-    let b = directory[to] as usize;
-    count_part(
-        stretch.sure,
-        bounds,
-        &arena[ENTRY_WORDS * a..ENTRY_WORDS * b],
-    )
-}
-
-// Writes their ids into the rest of a list, from its word n on, and says where the rest now begins.
-fn list_stretch(
-    bounds: Bounds,
-    stretch: Stretch,
-    directory: &[u32],
-    arena: &[u32],
-    out: &mut [u32],
-    n: usize,
-) -> usize
-    requires { ⌜ There (now directory) (now arena) stretch ⌝ }
-    requires { ⌜ n + length (stretchMatches (inside bounds) (now directory) (now arena) stretch) ≤ length (now out) ⌝ }
-    ensures { λ r. ⌜ ListedFrom n (stretchMatches (inside bounds) (now (directory .entry)) (now (arena .entry)) stretch) (now (out .entry)) (now (out .exit)) r ⌝ }
-{
-    let from = stretch.from;
-    let to = stretch.to;
-    let a = directory[from] as usize;
-    let b = directory[to] as usize;
-    n
-        + list_part(
-            stretch.sure,
-            bounds,
-            &arena[ENTRY_WORDS * a..ENTRY_WORDS * b],
-            &mut out[n..],
-        )
-}
+ghost use Rattle.ask.specs.Part.{Listed};
+ghost use Rattle.ask.specs.Levels.{AllThere, LevelsThere, levelMatches, levelsMatches};
 
 // How many entries of a level match.
 fn count_level(
@@ -69,10 +28,10 @@ fn count_level(
     requires { ⌜ length (levelMatches (inside bounds) (now directory) (now originals) (now replicas) level) ≤ mostTrips ⌝ }
     ensures { λ r. ⌜ r ≡ length (levelMatches (inside bounds) (now (directory .entry)) (now (originals .entry)) (now (replicas .entry)) level) ⌝ }
 {
-    let a = count_stretch(bounds, level.first, directory, originals);
+    let a = count_partition(Half::Originals, bounds, level.first, directory, originals);
     let b = count_stretch(bounds, level.between, directory, originals);
-    let c = count_stretch(bounds, level.last, directory, originals);
-    let d = count_stretch(bounds, level.replicas, directory, replicas);
+    let c = count_partition(Half::Originals, bounds, level.last, directory, originals);
+    let d = count_partition(Half::Replicas, bounds, level.replicas, directory, replicas);
     a + b + c + d
 }
 
@@ -89,10 +48,34 @@ fn list_level(
     requires { ⌜ length (levelMatches (inside bounds) (now directory) (now originals) (now replicas) level) ≤ length (now out) ⌝ }
     ensures { λ r. ⌜ Listed (levelMatches (inside bounds) (now (directory .entry)) (now (originals .entry)) (now (replicas .entry)) level) (now (out .entry)) (now (out .exit)) r ⌝ }
 {
-    let a = list_stretch(bounds, level.first, directory, originals, out, 0);
+    let a = list_partition(
+        Half::Originals,
+        bounds,
+        level.first,
+        directory,
+        originals,
+        out,
+        0,
+    );
     let b = list_stretch(bounds, level.between, directory, originals, out, a);
-    let c = list_stretch(bounds, level.last, directory, originals, out, b);
-    list_stretch(bounds, level.replicas, directory, replicas, out, c)
+    let c = list_partition(
+        Half::Originals,
+        bounds,
+        level.last,
+        directory,
+        originals,
+        out,
+        b,
+    );
+    list_partition(
+        Half::Replicas,
+        bounds,
+        level.replicas,
+        directory,
+        replicas,
+        out,
+        c,
+    )
 }
 
 // How many entries that the plan looks at match.

@@ -58,7 +58,7 @@ pub record Proper (s : Scale) (o p : ℕ → List Trip) : Type 0 where
   pub total : length (joined o (slotsOf s)) + length (joined p (slotsOf s)) ≡ sumOver (partitionsHolding s) (joined o (slotsOf s))
 
 -- a table's slots are in order
-slot-sorted : (s : Scale) (h : Half) (ts : List Trip) → Distinct ts → (k : ℕ) → Sorted (order (subdivisionAt h k)) (slot s h ts k)
+pub slot-sorted : (s : Scale) (h : Half) (ts : List Trip) → Distinct ts → (k : ℕ) → Sorted (order (subdivisionAt h k)) (slot s h ts k)
 unfolding slot slotTrips
 slot-sorted s h ts d k =
     let c = subdivisionAt h k in

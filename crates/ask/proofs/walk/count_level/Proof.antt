@@ -1,22 +1,34 @@
 -- The four counts together.
 use lib.ListN.{length-append}
-use Rattle.ask.specs.Part.{levelMatches}
+use Rattle.ask.specs.Levels.{levelMatches}
 use native.Mathlib.Omega.{arith}
 use borrow.Author.Needs.{needs}
 use Rattle.ask.proofs.walk.count_level.Statement.{statement}
 use Rattle.ask.proofs.walk.count_level.Tie as tie
 
+count-partition-requires : tie.Need-count-partition-requires
+unfolding levelMatches
+count-partition-requires c κs =
+    let s = c .before .before .before in
+    let n = simp length-append at (s .pre .1) in
+    (s .pre .0 .first, omega arith)
+
 count-stretch-requires : tie.Need-count-stretch-requires
 count-stretch-requires c κs = search needs
 
-count-stretch-requires-2 : tie.Need-count-stretch-requires-2
-count-stretch-requires-2 c κs = search needs
+count-partition-requires-2 : tie.Need-count-partition-requires-2
+unfolding levelMatches
+count-partition-requires-2 c κs =
+    let s = c .before .before .before .before .before in
+    let n = simp length-append at (s .pre .1) in
+    (s .pre .0 .last, omega arith)
 
-count-stretch-requires-3 : tie.Need-count-stretch-requires-3
-count-stretch-requires-3 c κs = search needs
-
-count-stretch-requires-4 : tie.Need-count-stretch-requires-4
-count-stretch-requires-4 c κs = search needs
+count-partition-requires-3 : tie.Need-count-partition-requires-3
+unfolding levelMatches
+count-partition-requires-3 c κs =
+    let s = c .before .before .before .before .before .before in
+    let n = simp length-append at (s .pre .1) in
+    (s .pre .0 .replicas, omega arith)
 
 add-result : tie.Need-add-result
 unfolding levelMatches
@@ -44,10 +56,10 @@ pub count-level-spec : {M : Type 1} → statement M
 count-level-spec =
     tie.close
     (tie.spec
+    count-partition-requires
     count-stretch-requires
-    count-stretch-requires-2
-    count-stretch-requires-3
-    count-stretch-requires-4
+    count-partition-requires-2
+    count-partition-requires-3
     add-result
     add-result-2
     add-result-3

@@ -4,7 +4,8 @@ use Prim.Native.Nat.{ℕ, _+_, _-_, _≤_}
 use lib.ListN.{length}
 use Rattle.ask.specs.Bounds.{inside}
 use Rattle.ask.specs.Plan.{stretchesAt}
-use Rattle.ask.specs.Part.{Listed, levelMatches, levelsMatches}
+use Rattle.ask.specs.Part.{Listed}
+use Rattle.ask.specs.Levels.{levelMatches, levelsMatches}
 use Rattle.ask.proofs.Written.{lent-room, lent-back, listed-none, listed-length, rest-room, listed-more}
 use Rattle.ask.proofs.Levels.{levels-none, levels-more, next-room}
 use native.Mathlib.Omega.{arith}

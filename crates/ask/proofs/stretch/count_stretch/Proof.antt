@@ -2,8 +2,8 @@
 use Rattle.layout.specs.Words.{entryWords}
 use Rattle.ask.specs.Part.{stretchWords, stretchMatches}
 use borrow.Author.Needs.{needs}
-use Rattle.ask.proofs.walk.count_stretch.Statement.{statement}
-use Rattle.ask.proofs.walk.count_stretch.Tie as tie
+use Rattle.ask.proofs.stretch.count_stretch.Statement.{statement}
+use Rattle.ask.proofs.stretch.count_stretch.Tie as tie
 
 mul-a : tie.Need-mul-a
 mul-a c = search needs

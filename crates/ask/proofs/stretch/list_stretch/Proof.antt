@@ -4,8 +4,8 @@ use Rattle.ask.specs.Part.{stretchWords, stretchMatches}
 use Rattle.ask.proofs.Written.{lent-room, lent-back}
 use native.Mathlib.Omega.{arith}
 use borrow.Author.Needs.{needs}
-use Rattle.ask.proofs.walk.list_stretch.Statement.{statement}
-use Rattle.ask.proofs.walk.list_stretch.Tie as tie
+use Rattle.ask.proofs.stretch.list_stretch.Statement.{statement}
+use Rattle.ask.proofs.stretch.list_stretch.Tie as tie
 
 mul-a : tie.Need-mul-a
 mul-a c = search needs

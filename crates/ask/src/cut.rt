@@ -1,0 +1,82 @@
+// A slot in its order, cut by halving to the entries whose times can match, so that only these are tested.
+use crate::bounds::Bounds;
+use crate::bounds::Span;
+use layout::ENTRY_WORDS;
+use layout::Half;
+use ruler::Time;
+use store::entry::trip_at;
+use trip::Trip;
+ghost use mathlib.Core.Path.{_≡_};
+ghost use Rattle.lists.specs.Lists.{keep};
+ghost use Rattle.layout.specs.Words.{rows};
+ghost use Rattle.ask.specs.Bounds.{inside};
+ghost use Rattle.ask.specs.Cut.{timeOf, spanOf, earlierThan, InTurn, Rises, Parted};
+
+// The time by which a slot is in order: a trip's end, or its start.
+fn time_of(ends: bool, t: Trip) -> Time
+    ensures { λ r. ⌜ r ≡ timeOf ends t ⌝ }
+{
+    if ends {
+        return t.end;
+    }
+    t.start
+}
+
+// The bounds on that time.
+fn span_of(ends: bool, bounds: Bounds) -> Span
+    ensures { λ r. ⌜ r ≡ spanOf ends bounds ⌝ }
+{
+    if ends {
+        return bounds.end;
+    }
+    bounds.start
+}
+
+// How many entries, from the front, have a time before the limit.
+fn entries_before(ends: bool, limit: Time, part: &[u32]) -> usize
+    requires { ⌜ Rises ends (now part) ⌝ }
+    ensures { λ r. ⌜ Parted (earlierThan ends limit) (now (part .entry)) r ⌝ }
+{
+    let mut lo: usize = 0;
+    let mut hi = part.len() / ENTRY_WORDS;
+    while lo < hi {
+        let mid = lo + (hi - lo) / 2;
+        let time = time_of(ends, trip_at(part, mid));
+        if time.before(limit) {
+            lo = mid + 1;
+        } else {
+            hi = mid;
+        }
+    }
+    lo
+}
+
+// The entries whose time is within the bounds. Where the bounds allow no time the second search may stop before the first.
+fn within<'a>(ends: bool, bounds: Bounds, part: &'a [u32]) -> &'a [u32]
+    requires { ⌜ Rises ends (now part) ⌝ }
+    ensures { λ r. ⌜ keep (inside bounds) (rows (now r)) ≡ keep (inside bounds) (rows (now (part .entry))) ⌝ }
+{
+    let span = span_of(ends, bounds);
+    let lo = entries_before(ends, span.from, part);
+    let hi = entries_before(ends, span.until, part);
+    if hi < lo {
+        return &part[ENTRY_WORDS * lo..ENTRY_WORDS * lo];
+    }
+    &part[ENTRY_WORDS * lo..ENTRY_WORDS * hi]
+}
+
+// A slot without the entries whose time cannot match. R_aft is in the order of ids, which tells nothing of its times.
+pub fn cut<'a>(half: Half, aft: bool, bounds: Bounds, part: &'a [u32]) -> &'a [u32]
+    requires { ⌜ InTurn half aft (now part) ⌝ }
+    ensures { λ r. ⌜ keep (inside bounds) (rows (now r)) ≡ keep (inside bounds) (rows (now (part .entry))) ⌝ }
+{
+    match half {
+        Half::Originals => within(false, bounds, part),
+        Half::Replicas => {
+            if aft {
+                return part;
+            }
+            within(true, bounds, part)
+        }
+    }
+}
