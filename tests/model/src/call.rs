@@ -10,6 +10,13 @@ use crate::model::index::{Index, Reply};
 use crate::model::trip::Trip;
 use crate::model::view::{census, run};
 
+/// The words that each buffer of a call may have at the test port.
+const MOST_TABLE: usize = 12_300;
+const MOST_DIRECTORY: usize = 8_200;
+const MOST_ORIGINALS: usize = 12_300;
+const MOST_REPLICAS: usize = 60_000;
+const MOST_ANSWERS: usize = 4_100;
+
 #[derive(Clone, Debug, PartialEq)]
 pub enum Request {
     Build { table: Vec<u32> },
@@ -117,7 +124,7 @@ impl Call {
         let w = take_word(&mut rest)?;
         let m = take_word(&mut rest)?;
         let request = match name {
-            "build" => Request::Build { table: take_buffer(&mut rest)? },
+            "build" => Request::Build { table: take_buffer(&mut rest, MOST_TABLE)? },
             "check" => Request::Check,
             "census" => Request::Census,
             "add" => Request::Add {
@@ -142,13 +149,13 @@ impl Call {
             _ => return None,
         };
         let index = Index {
-            directory: take_buffer(&mut rest)?,
-            originals: take_buffer(&mut rest)?,
-            replicas: take_buffer(&mut rest)?,
+            directory: take_buffer(&mut rest, MOST_DIRECTORY)?,
+            originals: take_buffer(&mut rest, MOST_ORIGINALS)?,
+            replicas: take_buffer(&mut rest, MOST_REPLICAS)?,
         };
         let mut call = Call { w, m, request, index };
         if let Request::Ask { answers, .. } = &mut call.request {
-            *answers = take_buffer(&mut rest)?;
+            *answers = take_buffer(&mut rest, MOST_ANSWERS)?;
         }
         if rest.is_empty() {
             Some(call)
@@ -188,8 +195,9 @@ fn push_index(line: &mut String, index: &Index) {
     push_buffer(line, &index.replicas);
 }
 
+/// One to ten digits, as in a session's line.
 fn plain_number(field: &str) -> Option<u32> {
-    if field.is_empty() || !field.bytes().all(|byte| byte.is_ascii_digit()) {
+    if field.is_empty() || field.len() > 10 || !field.bytes().all(|byte| byte.is_ascii_digit()) {
         return None;
     }
     field.parse().ok()
@@ -201,9 +209,9 @@ fn take_word(rest: &mut &[u32]) -> Option<u32> {
     Some(*first)
 }
 
-fn take_buffer(rest: &mut &[u32]) -> Option<Vec<u32>> {
+fn take_buffer(rest: &mut &[u32], most: usize) -> Option<Vec<u32>> {
     let length = take_word(rest)? as usize;
-    if length > rest.len() {
+    if length > most || length > rest.len() {
         return None;
     }
     let (words, others) = rest.split_at(length);

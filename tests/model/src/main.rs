@@ -84,8 +84,8 @@ fn number(text: &str) -> u64 {
 fn probe(options: &Options) -> io::Result<bool> {
     let input = io::stdin();
     let mut output = io::stdout();
-    for line in input.lock().lines() {
-        let line = line?;
+    for bytes in input.lock().split(b'\n') {
+        let line = String::from_utf8_lossy(&bytes?).into_owned();
         let answer = faults::with_fault(options.fault, || call::probe_answer(&line));
         writeln!(output, "{}", answer)?;
     }
