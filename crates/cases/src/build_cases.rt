@@ -72,6 +72,38 @@ fn four_trips_in_two_orders() {
     say::case(right, b"build document 01's trips in another order");
 }
 
+// Whether replicas are two runs in one order and a third in another.
+fn three_runs(replicas: &[u32], twice: &[u32], third: &[u32]) -> bool {
+    if replicas.len() != 27 {
+        return false;
+    }
+    let first = say::same(&replicas[0..9], twice);
+    let second = say::same(&replicas[9..18], twice);
+    first & second & say::same(&replicas[18..27], third)
+}
+
+// "O_in and O_aft by start then id; R_in by end then id; R_aft by id". Three trips of the cells 1 to 6, in the same four slots: an O_aft, two
+// R_aft and an R_in.
+fn order_in_slots() {
+    let mut directory = [7u32; 62];
+    let mut originals = [7u32; 9];
+    let mut replicas = [7u32; 27];
+    let outcome = build::build(
+        say::ruler(4, 3),
+        &[9, 2, 13, 7, 3, 12, 5, 2, 13],
+        &mut directory,
+        &mut originals,
+        &mut replicas,
+    );
+    let by_start = [5, 2, 13, 9, 2, 13, 7, 3, 12];
+    let by_id = [5, 2, 13, 7, 3, 12, 9, 2, 13];
+    let by_end = [7, 3, 12, 5, 2, 13, 9, 2, 13];
+    let first = say::same(&originals, &by_start);
+    let second = three_runs(&replicas, &by_id, &by_end);
+    let right = say::is(outcome, 0, 0) & first & second;
+    say::case(right, b"build: the order in each slot");
+}
+
 // Whether a build into a directory for m = 4 and arenas of 12 and 9 words, which document 01's trips fill, has this number and detail. A
 // refused one leaves every word as it was.
 fn says(numbers: Numbers, table: &[u32], number: u32, detail: u32) -> bool {
@@ -258,6 +290,7 @@ fn many_with_all_partitions() {
 
 pub fn all() {
     four_trips_in_two_orders();
+    order_in_slots();
     one_second();
     one_level();
     empty_table();
