@@ -2,9 +2,11 @@
 // or `WRONG` and its name.
 mod build_cases;
 mod check_cases;
+mod edit_cases;
 mod say;
 
 fn main() {
     build_cases::all();
     check_cases::all();
+    edit_cases::all();
 }
