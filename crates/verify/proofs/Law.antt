@@ -25,11 +25,12 @@ use Rattle.layout.proofs.RowOrder.{slot-order}
 use Rattle.layout.proofs.Indexes.{of-isIndex, to-isIndex}
 use Rattle.layout.proofs.Walk.{inSlot}
 use Rattle.layout.proofs.Local.{slotsOf, subdivisionAt, Standing, Proper, Laid, originalsHalf, replicasHalf, all-fit, originals-are, local-index, index-local}
+use Rattle.store.specs.Ids.{idsDiffer}
+use Rattle.store.proofs.Differing.{of-idsDiffer, to-idsDiffer}
 use Rattle.verify.specs.Passing.{each, some}
-use Rattle.verify.specs.Local.{total, halfOk, slotAt, tripsOf, fitsTest, standsAt, slotOk, slotsOk, home, sameTrip, isKnown, idsDiffer, countsTo, halvesOk, allSlotsOk, tripsOk, locally}
+use Rattle.verify.specs.Local.{total, halfOk, slotAt, tripsOf, fitsTest, standsAt, slotOk, slotsOk, home, sameTrip, isKnown, countsTo, halvesOk, allSlotsOk, tripsOk, locally}
 use Rattle.verify.proofs.Passing.{bool-ext, of-below, to-below, of-each, to-each, of-some, to-some, row-passes, row-sorted, to-row}
 use Rattle.verify.proofs.Home.{of-fits, to-fits, of-same, same-refl, home-lt, home-slot}
-use Rattle.verify.proofs.Differing.{of-idsDiffer, to-idsDiffer}
 use Rattle.verify.proofs.Cut.{of-half, to-half, total-at, count-cut, cut-laid, trips-cut, laid-length, laid-cut, laid-at}
 use Rattle.verify.proofs.Places.{deep}
 

@@ -4,7 +4,6 @@ use half::entries_of;
 use half::half_ok;
 use half::slots_ok;
 use half::words_of;
-use ids::ids_differ;
 use layout::Half;
 use layout::Outcome;
 use layout::Refusal;
@@ -13,6 +12,7 @@ use ruler::Judged;
 use ruler::Numbers;
 use ruler::Ruler;
 use ruler::power;
+use store::ids::ids_differ;
 ghost use mathlib.Core.Path.{_≡_};
 ghost use mathlib.Core.Bool.{true};
 ghost use Prim.Native.Nat.{_<_, _≤_};
@@ -25,7 +25,6 @@ ghost use Rattle.verify.specs.Local.{halvesOk, allSlotsOk, tripsOk, loca
 
 mod counting;
 mod half;
-mod ids;
 mod origin;
 mod partition;
 
