@@ -155,9 +155,6 @@ module _ (r : Ruler) (t : Trip) (good : inBounds (r .numbers) ≡ true) (fit : f
   pub start-lt : scale r .cell (t .start) < 2 ^ scale r .m
   start-lt = ruler-fair .one-of (t .start) (trip-fits .starts)
 
-  pub end-lt : scale r .cell (t .end) < 2 ^ scale r .m
-  end-lt = ruler-fair .one-of (t .end) (trip-fits .ends)
-
   pub level-deep : homeLevel (scale r .m) (scale r .cell (t .start)) (scale r .cell (t .end)) (scale r .m) ≤ scale r .m
   level-deep = home-deep (scale r) ruler-fair t trip-fits
 

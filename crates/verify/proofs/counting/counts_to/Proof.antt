@@ -12,6 +12,7 @@ use Rattle.layout.proofs.Few.{never-eleven}
 use Rattle.verify.specs.Passing.{each}
 use Rattle.verify.specs.Local.{fitsTest, countsTo}
 use Rattle.verify.proofs.Places.{deep}
+use Rattle.verify.proofs.Home.{trip-fits}
 use Rattle.verify.proofs.Passes.{each-more, each-stop, each-end, sum-more, sum-end}
 use native.Mathlib.Omega.{arith}
 use Rattle.verify.proofs.counting.counts_to.Statement.{statement}
@@ -50,7 +51,9 @@ returns c =
     rw all
 
 partitions-holding-requires : tie.Need-partitions-holding-requires Inv-loop μ-loop
-partitions-holding-requires c κs = (c .before .before .before .before .before .before .pre .0, sym (c .before .fits2 .ensures) ∙ not-false _ (c .if1 .left))
+partitions-holding-requires c κs =
+    let good = c .before .before .before .before .before .before .pre .0 in
+    (good, trip-fits _ _ good (sym (c .before .fits2 .ensures) ∙ not-false _ (c .if1 .left)))
 
 cast-sum : tie.Need-cast-sum Inv-loop μ-loop
 cast-sum c = omega arith
