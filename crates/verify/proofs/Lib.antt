@@ -4,6 +4,5 @@ pub mod Cut
 pub mod Passing
 pub mod Home
 pub mod Halving
-pub mod Walk
 pub mod Law
 pub mod Parts
