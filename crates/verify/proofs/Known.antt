@@ -27,7 +27,8 @@ use Rattle.verify.proofs.Home.{of-same, same-refl}
 
 -- ---- a trip at its place k in a part that is in order
 
-module _ (part : List ℕ) (t : Trip) (s : InOrder (order OIn) noTrip (rows part) (length (rows part))) (k : ℕ) (place : k ≡ preceding OIn t (rows part)) where
+module _ (part : List ℕ) (t : Trip) (s : InOrder (order OIn) noTrip (rows part) (length (rows part))) (k : ℕ)
+    (place : k ≡ preceding OIn t (rows part)) where
   -- a row that is the trip stands there
   found : T (some (sameTrip t) (rows part)) → (k < length part / entryWords) × (tripAt part k ≡ t)
   found u =
