@@ -261,7 +261,8 @@ fn move_up(words: &mut [u32], at: usize, end: usize)
 
 // An entry dropped or doubled, with the counts of its half as if that were right.
 fn drop_or_double(words: &mut [u32], counts: usize, arena: usize, entry: usize, double: bool)
-    requires { do ⌜ (counts + (← ⟦COUNTS⟧) ≤ length (now words)) × (arena + (← ⟦ARENA⟧) ≤ length (now words)) × (entry < (← ⟦MOST⟧)) ⌝ }
+    requires { do ⌜ (counts + (← ⟦COUNTS⟧) ≤ length (now words)) × (arena + (← ⟦ARENA⟧) ≤ length (now words)) ⌝ }
+    requires { do ⌜ entry < (← ⟦MOST⟧) ⌝ }
 {
     let at = arena + 3 * entry;
     if double {
@@ -285,7 +286,7 @@ fn refusals(words: &[u32]) -> u32
     0
 }
 
-// How many entries of a half are refused when they are dropped, or doubled. The check must be right on each, and so many must be refused.
+// Each entry of a half dropped, or doubled: the check must be right on every one, and refuse as many as are expected.
 fn each_entry(
     words: &mut [u32],
     index: &[u32],

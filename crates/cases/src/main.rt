@@ -4,6 +4,9 @@ mod ask_cases;
 mod build_cases;
 mod check_cases;
 mod edit_cases;
+mod edit_steps;
+mod edit_table;
+mod full_cases;
 mod say;
 mod view_cases;
 
@@ -12,5 +15,6 @@ fn main() {
     check_cases::all();
     ask_cases::all();
     edit_cases::all();
+    full_cases::all();
     view_cases::all();
 }

@@ -9,13 +9,14 @@ use lib.Dec.{T, eqb, leb→le, le→leb, eqb→eq, eqb-refl}
 use Rattle.lists.proofs.Tests.{of-and, to-and, to-T}
 use Rattle.ruler.specs.declared.Ruler.{Ruler}
 use Rattle.ruler.specs.Ruler.{Scale, inBounds, scale, noLater, sameTime, timeAt, cellUp}
-use Rattle.ruler.proofs.Fair.{Fair, fair}
+use Rattle.ruler.proofs.Fair.{Fair}
 use Rattle.ruler.proofs.Levels.{up-half, up-bottom, up-lt}
 use Rattle.trip.specs.declared.Trip.{Trip}
 use Rattle.layout.specs.declared.Half.the-variants.{Originals}
 use Rattle.layout.specs.Stored.{within, holds, holdsTrip, isOriginal, isIn, isOf, subdivisionOf, belongs}
 use Rattle.layout.specs.Words.{partitions, partitionNumber, slotNumber, slot}
 use Rattle.layout.proofs.Partitions.{Fits, to-within}
+use Rattle.layout.proofs.RulerCells.{fair-ruler}
 use Rattle.layout.proofs.Numbers.{level-number, place-number, number-lt}
 use Rattle.layout.proofs.Slots.{to-slot}
 use Rattle.verify.specs.Local.{fitsTest, homeLevel, homeAt, home, sameTrip}
@@ -146,23 +147,14 @@ module _ (s : Scale) (fair : Fair s) (t : Trip) (f : Fits s t) where
 -- ---- the same of a ruler, for the code
 
 module _ (r : Ruler) (t : Trip) (good : inBounds (r .numbers) ≡ true) (fit : fitsTest (scale r) t ≡ true) where
-  ruler-fair : Fair (scale r)
-  ruler-fair = fair (r .numbers) (to-T good)
-
   pub trip-fits : Fits (scale r) t
   trip-fits = of-fits (scale r) t (to-T fit)
 
-  pub start-lt : scale r .cell (t .start) < 2 ^ scale r .m
-  start-lt = ruler-fair .one-of (t .start) (trip-fits .starts)
-
-  pub end-lt : scale r .cell (t .end) < 2 ^ scale r .m
-  end-lt = ruler-fair .one-of (t .end) (trip-fits .ends)
-
   pub level-deep : homeLevel (scale r .m) (scale r .cell (t .start)) (scale r .cell (t .end)) (scale r .m) ≤ scale r .m
-  level-deep = home-deep (scale r) ruler-fair t trip-fits
+  level-deep = home-deep (scale r) (fair-ruler r good) t trip-fits
 
   pub place-there : (L : ℕ) → L ≤ scale r .m → cellUp (scale r .m) L (scale r .cell (t .start)) < 2 ^ L
-  place-there = home-place (scale r) ruler-fair t trip-fits
+  place-there = home-place (scale r) (fair-ruler r good) t trip-fits
 
   pub home-in : home (scale r) t < 2 * partitions (scale r .m)
-  home-in = home-lt (scale r) ruler-fair t trip-fits
+  home-in = home-lt (scale r) (fair-ruler r good) t trip-fits

@@ -14,24 +14,25 @@ use Rattle.lists.proofs.Sublists.{joined-ext}
 use Rattle.lists.proofs.Sums.{sumOver}
 use Rattle.ruler.specs.declared.Ruler.{Ruler}
 use Rattle.ruler.specs.Ruler.{Scale, mostTrips, deepest, inBounds, scale, scaleOf}
-use Rattle.ruler.proofs.Fair.{Fair, fair}
+use Rattle.ruler.proofs.Fair.{Fair}
 use Rattle.trip.specs.declared.Trip.{Trip}
 use Rattle.layout.specs.declared.Half.{Half}
 use Rattle.layout.specs.declared.Half.the-variants.{Originals, Replicas}
 use Rattle.layout.specs.Words.{order, partitions, halfLength, directoryLength, Index}
 use Rattle.layout.specs.Refusals.{partitionsHolding, isIndex}
 use Rattle.layout.specs.Calls.{index}
+use Rattle.layout.proofs.RulerCells.{fair-ruler, deep-ruler}
 use Rattle.layout.proofs.RowOrder.{slot-order}
 use Rattle.layout.proofs.Indexes.{of-isIndex, to-isIndex}
 use Rattle.layout.proofs.Walk.{inSlot}
 use Rattle.layout.proofs.Local.{slotsOf, subdivisionAt, Standing, Proper, Laid, originalsHalf, replicasHalf, all-fit, originals-are, local-index, index-local}
+use Rattle.store.specs.Ids.{idsDiffer}
+use Rattle.store.proofs.Differing.{of-idsDiffer, to-idsDiffer}
 use Rattle.verify.specs.Passing.{each, some}
-use Rattle.verify.specs.Local.{total, halfOk, slotAt, tripsOf, fitsTest, standsAt, slotOk, slotsOk, home, sameTrip, isKnown, idsDiffer, countsTo, halvesOk, allSlotsOk, tripsOk, locally}
+use Rattle.verify.specs.Local.{total, halfOk, slotAt, tripsOf, fitsTest, standsAt, slotOk, slotsOk, home, sameTrip, isKnown, countsTo, halvesOk, allSlotsOk, tripsOk, locally}
 use Rattle.verify.proofs.Passing.{bool-ext, of-below, to-below, of-each, to-each, of-some, to-some, row-passes, row-sorted, to-row}
 use Rattle.verify.proofs.Home.{of-fits, to-fits, of-same, same-refl, home-lt, home-slot}
-use Rattle.verify.proofs.Differing.{of-idsDiffer, to-idsDiffer}
 use Rattle.verify.proofs.Cut.{of-half, to-half, total-at, count-cut, cut-laid, trips-cut, laid-length, laid-cut, laid-at}
-use Rattle.verify.proofs.Places.{deep}
 
 -- ---- one half
 
@@ -184,7 +185,7 @@ of-ruler : (r : Ruler) (d orig repl : List ℕ) → inBounds (r .numbers) ≡ tr
     ≡ locally (scale r) (take (2 * partitions (scale r .m) + 1) d) orig (drop (2 * partitions (scale r .m) + 1) d) repl
 unfolding originalsHalf replicasHalf halfLength scaleOf
 of-ruler r d orig repl good long =
-    locally-index (scale r) (fair (r .numbers) (to-T good)) (index d orig repl) (to-T good) (deep r good) long
+    locally-index (scale r) (fair-ruler r good) (index d orig repl) (to-T good) (deep-ruler r good) long
 
 -- and of the two parts of a directory, as the code cuts it
 pub two-parts : (r : Ruler) (d orig repl : List ℕ) → inBounds (r .numbers) ≡ true → length d ≡ directoryLength (scale r .m)

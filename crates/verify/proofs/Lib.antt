@@ -3,8 +3,6 @@ pub mod Passes
 pub mod Cut
 pub mod Passing
 pub mod Home
-pub mod Differing
-pub mod Halving
-pub mod Walk
+pub mod Known
 pub mod Law
 pub mod Parts

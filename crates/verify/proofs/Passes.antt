@@ -6,15 +6,14 @@ use Prim.Native.Nat.{ℕ, zero, suc, _+_, _/_, _≤_, _<_}
 use native.Mathlib.Numerals.{add-one}
 use native.Mathlib.Decide.{decLt}
 use native.Mathlib.Omega.{arith}
-use lib.Dec.{ltb}
 use lib.ListN.{length, getD, drop, drop-of-length-le}
 use lib.Seq.{drop-cons}
-use borrow.Author.Tests.{le-leb, lt-leb, eq-eqb, ne-eqb, lt-ltb, le-ltb}
+use borrow.Author.Tests.{le-leb, lt-leb, eq-eqb, ne-eqb}
 use Rattle.lists.proofs.Sums.{sumOver}
 use Rattle.trip.specs.declared.Trip.{Trip}
 use Rattle.layout.specs.Words.{entryWords, tripAt, rows}
 use Rattle.layout.proofs.Rows.{length-rows, getD-rows}
-use Rattle.verify.specs.Passing.{below, each, after, inRow, climbs, rising, blank}
+use Rattle.verify.specs.Passing.{below, each, after, inRow, rising, blank}
 
 -- ---- words
 
@@ -45,30 +44,6 @@ module _ (xs : List ℕ) (i : ℕ) where
   pub rising-end : (n : ℕ) → length xs ≤ i → rising n (drop i xs) ≡ true
   unfolding rising
   rising-end n h = rw (drop-of-length-le xs h)
-
-  -- ids that climb, from the id last met
-  pub ids-more : (n : ℕ) → i < length xs → n < getD xs i 0
-      → after (λ x. true) ltb (getD xs i 0) (drop (i + 1) xs) ≡ after (λ x. true) ltb n (drop i xs)
-  unfolding after
-  ids-more n h e = rw (left h, lt-ltb n (getD xs i 0) e)
-
-  pub ids-stop : (n : ℕ) → i < length xs → getD xs i 0 ≤ n → after (λ x. true) ltb n (drop i xs) ≡ false
-  unfolding after
-  ids-stop n h e = rw (left h, le-ltb n (getD xs i 0) e)
-
-  pub ids-end : (n : ℕ) → length xs ≤ i → after (λ x. true) ltb n (drop i xs) ≡ true
-  unfolding after
-  ids-end n h = rw (drop-of-length-le xs h)
-
-pub ids-none : (xs : List ℕ) → length xs ≡ 0 → climbs ltb xs ≡ true
-unfolding inRow
-ids-none [] h = refl
-ids-none (x ∷ xs) h = absurd (omega arith)
-
-pub ids-first : (xs : List ℕ) → 0 < length xs → after (λ x. true) ltb (getD xs 0 0) (drop 1 xs) ≡ climbs ltb xs
-unfolding inRow
-ids-first [] h = absurd (omega arith)
-ids-first (x ∷ xs) h = refl
 
 -- ---- the rows of a part
 

@@ -1,28 +1,17 @@
 -- The partitions of a level, as the code computes them: the bounds of a partition's cells, the test of its parent, and the level of a
 -- partition's number found from the deepest level up.
 use mathlib.Core.Path.{_≡_, refl, sym, ap, _∙_}
-use mathlib.Core.Bool.{true, not, _&&_}
+use mathlib.Core.Bool.{not, _&&_}
 use Prim.Native.Nat.{ℕ, zero, suc, _+_, _-_, _*_, _/_, _^_, _≤_, _<_}
 use native.Mathlib.Nat.{mul-le-mul-right, two-pow-succ, le-trans}
 use native.Mathlib.Numerals.{add-one}
 use native.Mathlib.Omega.{arith}
 use lib.Pow.{pow-pos, pow-mono, pow-add}
 use borrow.Author.Tests.{le-leb, lt-leb}
-use Rattle.ruler.specs.declared.Ruler.{Ruler}
-use Rattle.ruler.specs.Ruler.{deepest, inBounds, scale, scaleOf}
-use Rattle.ruler.proofs.Fair.{Bounds, bounds}
-use Rattle.lists.proofs.Tests.{to-T}
+use Rattle.ruler.specs.Ruler.{deepest}
 use Rattle.layout.specs.Stored.{within, holds}
 use Rattle.layout.specs.Words.{levelOf, placeOf, partitionNumber, partitions}
 use Rattle.layout.proofs.Numbers.{Numbered, numbered}
-
--- the bounds of a ruler, for the code's arithmetic
-pub ruler-bounds : (r : Ruler) → inBounds (r .numbers) ≡ true → Bounds (r .numbers)
-ruler-bounds r e = bounds (r .numbers) (to-T e)
-
-pub deep : (r : Ruler) → inBounds (r .numbers) ≡ true → scale r .m ≤ deepest
-unfolding scaleOf
-deep r e = ruler-bounds r e .deep
 
 -- ---- one partition
 

@@ -2,9 +2,8 @@
 use mathlib.Core.Bool.{Bool, cond, not, _&&_}
 use mathlib.Core.List.{List}
 use Prim.Native.Nat.{ℕ, zero, suc, _+_, _-_, _*_, _/_, _%_, _≤_, _<_}
-use lib.Dec.{leb, ltb, eqb}
+use lib.Dec.{leb, eqb}
 use lib.ListN.{length, getD, take, drop}
-use Rattle.lists.specs.Lists.{ascending}
 use Rattle.lists.proofs.Sums.{sumOver}
 use Rattle.ruler.specs.Ruler.{Scale, mostTrips, sameTime, noLater, cellUp}
 use Rattle.trip.specs.declared.Trip.{Trip}
@@ -14,8 +13,8 @@ use Rattle.layout.specs.declared.Subdivision.{Subdivision}
 use Rattle.layout.specs.Stored.{within, isIn, belongs, subdivisionOf}
 use Rattle.layout.specs.Words.{entryWords, rows, order, levelOf, placeOf, slotNumber}
 use Rattle.layout.specs.Refusals.{partitionsHolding}
-use Rattle.store.specs.Entries.{ids}
-use Rattle.verify.specs.Passing.{below, each, some, inRow, climbs, rising, blank}
+use Rattle.store.specs.Ids.{idsDiffer}
+use Rattle.verify.specs.Passing.{below, each, some, inRow, rising, blank}
 
 -- ---- the words of one half
 
@@ -88,10 +87,6 @@ unfoldable pub isKnown : Scale → (directory originals : List ℕ) → Trip →
 isKnown s dir arena t = fitsTest s t && some (sameTrip t) (slotAt dir arena (home s t))
 
 -- ---- all
-
--- no id stands twice: in ascending order they climb
-unfoldable pub idsDiffer : List Trip → Bool
-idsDiffer ts = climbs ltb (ascending (ids ts))
 
 -- n is the number of partitions that hold the trips
 unfoldable pub countsTo : Scale → (n : ℕ) → List Trip → Bool

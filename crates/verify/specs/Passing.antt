@@ -29,10 +29,6 @@ module _ {A : Type 0} where
   inRow p lt [] = true
   inRow p lt (x ∷ l) = p x && after p lt x l
 
-  -- each member comes after the one before it
-  abbrev pub climbs : (lt : A → A → Bool) → List A → Bool
-  climbs = inRow (λ x. true)
-
 -- no word is below the one before it, the first not below n
 unfoldable pub rising : (n : ℕ) → List ℕ → Bool
 rising n [] = true

@@ -4,7 +4,6 @@ use half::entries_of;
 use half::half_ok;
 use half::slots_ok;
 use half::words_of;
-use ids::ids_differ;
 use layout::Half;
 use layout::Outcome;
 use layout::Refusal;
@@ -12,12 +11,13 @@ use origin::all_known;
 use ruler::Judged;
 use ruler::Numbers;
 use ruler::Ruler;
-use ruler::power;
+use store::counting::directory_length;
+use store::ids::ids_differ;
 ghost use mathlib.Core.Path.{_≡_};
 ghost use mathlib.Core.Bool.{true};
-ghost use Prim.Native.Nat.{_<_, _≤_};
+ghost use Prim.Native.Nat.{_<_};
 ghost use lib.ListN.{length};
-ghost use Rattle.ruler.specs.Ruler.{deepest, inBounds, scaleOf, scale};
+ghost use Rattle.ruler.specs.Ruler.{inBounds, scaleOf, scale};
 ghost use Rattle.layout.specs.Words.{halfLength, directoryLength};
 ghost use Rattle.layout.specs.Refusals.{isIndex, checkOutcome};
 ghost use Rattle.layout.specs.Calls.{index};
@@ -25,7 +25,6 @@ ghost use Rattle.verify.specs.Local.{halvesOk, allSlotsOk, tripsOk, loca
 
 mod counting;
 mod half;
-mod ids;
 mod origin;
 mod partition;
 
@@ -97,14 +96,6 @@ pub fn is_index(ruler: Ruler, directory: &[u32], originals: &[u32], replicas: &[
         &directory[half..n],
         replicas,
     )
-}
-
-// As many words as a directory of levels 0 to m has.
-fn directory_length(m: u32) -> usize
-    requires { ⌜ m ≤ deepest ⌝ }
-    ensures { λ r. ⌜ r ≡ directoryLength m ⌝ }
-{
-    4 * (power(m + 1) as usize - 1) + 2
 }
 
 // The tests 1, 3, 8 that each call on an index begins with.

@@ -1,25 +1,27 @@
 // A replica's original: the slot where it has to stand, and a search for it there.
 use crate::half::offset;
-use crate::partition::bottom_cell;
 use crate::partition::cell_at;
 use crate::partition::fits;
 use crate::partition::lies_in;
 use layout::ENTRY_WORDS;
 use layout::Subdivision;
 use ruler::Ruler;
-use ruler::power;
-use store::entry::precedes;
+use store::counting::bottom_cell;
 use store::entry::trip_at;
+use store::places::slot_number;
+use store::search::find_place;
 use trip::Trip;
 ghost use mathlib.Core.Path.{_≡_};
 ghost use mathlib.Core.Bool.{true};
-ghost use Prim.Native.Nat.{_*_, _^_, _<_, _≤_};
+ghost use Prim.Native.Nat.{_^_, _<_, _≤_};
 ghost use lib.ListN.{length};
+ghost use Rattle.lists.specs.Sifting.{InOrder};
 ghost use Rattle.ruler.specs.Ruler.{deepest, inBounds, scale};
 ghost use Rattle.layout.specs.declared.Half.the-variants.{Originals};
 ghost use Rattle.layout.specs.declared.Subdivision.the-variants.{OIn};
-ghost use Rattle.layout.specs.Words.{rows, order, halfLength, slotNumber};
-ghost use Rattle.verify.specs.Passing.{each, some, climbs};
+ghost use Rattle.layout.specs.Words.{rows, order, halfLength};
+ghost use Rattle.store.specs.Ordered.{noTrip};
+ghost use Rattle.verify.specs.Passing.{each, some};
 ghost use Rattle.verify.specs.Local.{fitsTest, halfOk, SlotIn, slotAt, slotsOk, homeLevel, home, sameTrip, isKnown};
 
 // The level of the original entry of a trip with the level-m cells a..b.
@@ -38,18 +40,6 @@ fn home_level(m: u32, a: u32, b: u32) -> u32
     0
 }
 
-// The "in" or the "aft" slot of partition i of a level.
-fn slot_number(level: u32, i: u32, aft: bool) -> usize
-    requires { ⌜ (level ≤ deepest) × (i < 2 ^ level) ⌝ }
-    ensures { λ r. ⌜ r ≡ slotNumber level i aft ⌝ }
-{
-    let p = (power(level) - 1 + i) as usize;
-    if aft {
-        return 2 * p + 1;
-    }
-    2 * p
-}
-
 // The slot of the original entry.
 fn home(ruler: Ruler, t: Trip) -> usize
     requires { ⌜ inBounds (ruler .numbers) ≡ true ⌝ }
@@ -65,7 +55,7 @@ fn home(ruler: Ruler, t: Trip) -> usize
     );
     let i = cell_at(ruler, level, start);
     let ends = cell_at(ruler, level, end) == i;
-    slot_number(level, i, !ends)
+    slot_number(level, i, !ends) as usize
 }
 
 // Whether two trips have the same words.
@@ -77,24 +67,14 @@ fn same_trip(t: Trip, u: Trip) -> bool
     (t.id == u.id) & (start.same(u.start) & end.same(u.end))
 }
 
-// Whether the trip is one of a part that is in the order of originals: by halving.
+// Whether the trip is one of a part that is in the order of originals: at its place there, or nowhere.
 fn has_trip(part: &[u32], t: Trip) -> bool
-    requires { ⌜ climbs (order OIn) (rows (now part)) ≡ true ⌝ }
+    requires { ⌜ InOrder (order OIn) noTrip (rows (now part)) (length (rows (now part))) ⌝ }
     ensures { λ r. ⌜ r ≡ some (sameTrip t) (rows (now (part .entry))) ⌝ }
 {
-    let n = part.len() / ENTRY_WORDS;
-    let mut lo: usize = 0;
-    let mut hi = n;
-    while lo < hi {
-        let mid = lo + (hi - lo) / 2;
-        if precedes(Subdivision::OIn, trip_at(part, mid), t) {
-            lo = mid + 1;
-        } else {
-            hi = mid;
-        }
-    }
-    if lo < n {
-        return same_trip(t, trip_at(part, lo));
+    let k = find_place(part, Subdivision::OIn, t);
+    if k < part.len() / ENTRY_WORDS {
+        return same_trip(t, trip_at(part, k));
     }
     false
 }
@@ -102,7 +82,7 @@ fn has_trip(part: &[u32], t: Trip) -> bool
 // Whether the trip stands in slot k, which is in the order of originals.
 fn slot_has(dir: &[u32], originals: &[u32], k: usize, t: Trip) -> bool
     requires { ⌜ SlotIn (now dir) (now originals) k ⌝ }
-    requires { ⌜ climbs (order OIn) (slotAt (now dir) (now originals) k) ≡ true ⌝ }
+    requires { ⌜ InOrder (order OIn) noTrip (slotAt (now dir) (now originals) k) (length (slotAt (now dir) (now originals) k)) ⌝ }
     ensures { λ r. ⌜ r ≡ some (sameTrip t) (slotAt (now (dir .entry)) (now (originals .entry)) k) ⌝ }
 {
     let from = offset(dir, k);

@@ -4,6 +4,7 @@ use layout::Subdivision;
 use ruler::Ruler;
 use ruler::Time;
 use ruler::power;
+use store::counting::bottom_cell;
 use trip::Trip;
 ghost use mathlib.Core.Path.{_≡_};
 ghost use mathlib.Core.Bool.{true};
@@ -31,14 +32,6 @@ fn holds(m: u32, level: u32, i: u32, a: u32, b: u32) -> bool
         return lies_in(m, 0, i, a, b);
     }
     lies_in(m, level, i, a, b) & !lies_in(m, level - 1, i / 2, a, b)
-}
-
-// The level-m cell of a time.
-pub fn bottom_cell(ruler: Ruler, t: Time) -> u32
-    requires { ⌜ inBounds (ruler .numbers) ≡ true ⌝ }
-    ensures { λ r. ⌜ r ≡ scale ruler .cell t ⌝ }
-{
-    ruler.cell(ruler.bottom(), t).number()
 }
 
 // The number of a time's cell at a level.

@@ -8,8 +8,8 @@ use Rattle.ruler.proofs.Judging.{judged-good, judged-out}
 use Rattle.layout.specs.Words.{directoryLength}
 use Rattle.layout.specs.Refusals.{refuse}
 use Rattle.layout.proofs.Checked.{check-bounds, check-length, check-words}
-use Rattle.verify.proofs.Places.{deep}
 use borrow.Author.Needs.{needs}
+use Rattle.layout.proofs.RulerCells.{deep-ruler}
 use Rattle.verify.proofs.check.Statement.{statement}
 use Rattle.verify.proofs.check.Tie as tie
 
@@ -33,7 +33,7 @@ directory-length-requires : tie.Need-directory-length-requires
 directory-length-requires c κs =
     let ruler = c .before .before .ruler .given in
     let made = judged-good _ (ruler .0 .0) (sym (c .before .before .before .before .new .ensures) ∙ ruler .1) in
-    rw (c .bottom .ensures) (deep (ruler .0 .0) (rw (made .numbers) (made .good)))
+    rw (c .bottom .ensures) (deep-ruler (ruler .0 .0) (rw (made .numbers) (made .good)))
 
 returns-2 : tie.Need-returns-2
 unfolding scaleOf

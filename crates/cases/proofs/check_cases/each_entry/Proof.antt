@@ -8,7 +8,8 @@ use Rattle.cases.proofs.check_cases.each_entry.Statement.{statement}
 use Rattle.cases.proofs.check_cases.each_entry.Tie as tie
 
 abbrev Inv-loop : tie.InvT-loop
-Inv-loop words₀ index counts arena double expected right₀ refused₀ entry₀ words right refused entry = (length words ≡ length words₀) × (entry ≤ 4) × (refused ≤ entry)
+Inv-loop words₀ index counts arena double expected right₀ refused₀ entry₀ words right refused entry =
+    (length words ≡ length words₀) × (entry ≤ 4) × (refused ≤ entry)
 
 abbrev μ-loop : tie.MeasureT-loop
 μ-loop words₀ index counts arena double expected right₀ refused₀ entry₀ words right refused entry = 4 - entry

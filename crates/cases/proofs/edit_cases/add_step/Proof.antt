@@ -36,7 +36,8 @@ same-length-4 c = search needs
 
 returns : tie.Need-returns
 returns c =
-    let after = c .before .before .before .before .before .before .before .before .before .before .before .before .before .before .before .before .before in
+    let call = c .before .before .before .before .before .before .before .before .before .before .before in
+    let after = call .before .before .before .before .before .before in
     omega (arith, after .rows-after .ensures, after .before .before .before .before .before .before .before .before .before .pre .1)
 
 pub add-step-spec : {M : Type 1} → statement M

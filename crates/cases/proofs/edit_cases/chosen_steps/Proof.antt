@@ -9,7 +9,8 @@ use Rattle.cases.proofs.edit_cases.chosen_steps.Tie as tie
 
 abbrev Inv-loop : tie.InvT-loop
 Inv-loop table₀ directory₀ originals₀ replicas₀ right₀ answers₀ x₀ rows₀ i₀ table directory originals replicas right answers x rows i =
-    (length table ≡ length table₀) × (length directory ≡ length directory₀) × (length originals ≡ length originals₀) × (length replicas ≡ length replicas₀) × (rows ≤ 8) × (i ≤ 1000) × (x < 65537)
+    (length table ≡ length table₀) × (length directory ≡ length directory₀)
+    × (length originals ≡ length originals₀) × (length replicas ≡ length replicas₀) × (rows ≤ 8) × (i ≤ 1000) × (x < 65537)
 
 abbrev μ-loop : tie.MeasureT-loop
 μ-loop table₀ directory₀ originals₀ replicas₀ right₀ answers₀ x₀ rows₀ i₀ table directory originals replicas right answers x rows i =

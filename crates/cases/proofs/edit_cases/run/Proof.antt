@@ -9,7 +9,8 @@ use Rattle.cases.proofs.edit_cases.run.Tie as tie
 
 abbrev Inv-loop : tie.InvT-loop
 Inv-loop trial steps table₀ directory₀ originals₀ replicas₀ right₀ rows₀ i₀ table directory originals replicas right rows i =
-    (length table ≡ length table₀) × (length directory ≡ length directory₀) × (length originals ≡ length originals₀) × (length replicas ≡ length replicas₀) × (rows ≤ 8) × (i ≤ steps)
+    (length table ≡ length table₀) × (length directory ≡ length directory₀)
+    × (length originals ≡ length originals₀) × (length replicas ≡ length replicas₀) × (rows ≤ 8) × (i ≤ steps)
 
 abbrev μ-loop : tie.MeasureT-loop
 μ-loop trial steps table₀ directory₀ originals₀ replicas₀ right₀ rows₀ i₀ table directory originals replicas right rows i =
@@ -41,7 +42,8 @@ one-step-requires c κs = omega arith
 
 add-i : tie.Need-add-i Inv-loop μ-loop
 add-i c =
-    let test = c .before .before .before .before .before .before .before .before .before .before .before .before .before .before .before .before .before .before in
+    let call = c .before .before .before .before .before .before .before .before .before .before .before in
+    let test = call .before .before .before .before .before .before .before in
     omega (arith, test .loop-test .taken, test .before .before .before .before .before .before .fits .steps)
 
 loop-less : tie.Need-loop-less Inv-loop μ-loop

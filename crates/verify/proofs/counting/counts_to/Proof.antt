@@ -9,9 +9,10 @@ use Rattle.ruler.specs.Ruler.{scale}
 use Rattle.layout.specs.Words.{entryWords, tripAt, rows}
 use Rattle.layout.specs.Refusals.{mostPartitions, partitionsHolding}
 use Rattle.layout.proofs.Few.{never-eleven}
+use Rattle.layout.proofs.RulerCells.{deep-ruler}
 use Rattle.verify.specs.Passing.{each}
 use Rattle.verify.specs.Local.{fitsTest, countsTo}
-use Rattle.verify.proofs.Places.{deep}
+use Rattle.verify.proofs.Home.{trip-fits}
 use Rattle.verify.proofs.Passes.{each-more, each-stop, each-end, sum-more, sum-end}
 use native.Mathlib.Omega.{arith}
 use Rattle.verify.proofs.counting.counts_to.Statement.{statement}
@@ -50,7 +51,9 @@ returns c =
     rw all
 
 partitions-holding-requires : tie.Need-partitions-holding-requires Inv-loop μ-loop
-partitions-holding-requires c κs = (c .before .before .before .before .before .before .pre .0, sym (c .before .fits2 .ensures) ∙ not-false _ (c .if1 .left))
+partitions-holding-requires c κs =
+    let good = c .before .before .before .before .before .before .pre .0 in
+    (good, trip-fits _ _ good (sym (c .before .fits2 .ensures) ∙ not-false _ (c .if1 .left)))
 
 cast-sum : tie.Need-cast-sum Inv-loop μ-loop
 cast-sum c = omega arith
@@ -59,7 +62,7 @@ add-sum : tie.Need-add-sum Inv-loop μ-loop
 unfolding entryWords
 add-sum c =
     let g = c .before .before .before .before .before .before .before in
-    let few = never-eleven (scale (g .args .ruler)) (c .before .before .before .trip-at .result) (deep (g .args .ruler) (g .pre .0)) in
+    let few = never-eleven (scale (g .args .ruler)) (c .before .before .before .trip-at .result) (deep-ruler (g .args .ruler) (g .pre .0)) in
     omega (arith, c .partitions-holding .ensures, g .pre .1)
 
 add-k : tie.Need-add-k Inv-loop μ-loop
@@ -76,7 +79,7 @@ loop-again c =
     let part = g .args .part .now in
     let k = c .before .before .before .before .before .loop in
     let read = c .before .before .before .trip-at .ensures in
-    let few = never-eleven s (c .before .before .before .trip-at .result) (deep (g .args .ruler) (g .pre .0)) in
+    let few = never-eleven s (c .before .before .before .trip-at .result) (deep-ruler (g .args .ruler) (g .pre .0)) in
     let held : c .partitions-holding .result ≡ partitionsHolding s (tripAt part (k .k)) = rw (← read) (c .partitions-holding .ensures) in
     let passes : fitsTest s (tripAt part (k .k)) ≡ true = rw (← read, ← c .before .before .fits2 .ensures) (not-false _ (c .before .if1 .left)) in (
       omega arith,

@@ -1,8 +1,9 @@
 -- The partition of the slot is found by its number.
 use mathlib.Core.Path.{refl}
 use Rattle.ruler.specs.Ruler.{scale}
+use Rattle.layout.proofs.RulerCells.{deep-ruler}
 use Rattle.verify.specs.Local.{slotOk}
-use Rattle.verify.proofs.Places.{deep, few-partitions, placed}
+use Rattle.verify.proofs.Places.{few-partitions, placed}
 use native.Mathlib.Omega.{arith}
 use borrow.Author.Needs.{needs}
 use Rattle.verify.proofs.half.slot_ok.Statement.{statement}
@@ -11,7 +12,7 @@ use Rattle.verify.proofs.half.slot_ok.Tie as tie
 cast-p : tie.Need-cast-p
 cast-p c =
     let g = c .before in
-    omega (arith, few-partitions (scale (g .args .ruler) .m) (deep (g .args .ruler) (g .pre .0)), g .pre .1)
+    omega (arith, few-partitions (scale (g .args .ruler) .m) (deep-ruler (g .args .ruler) (g .pre .0)), g .pre .1)
 
 bottom-requires : tie.Need-bottom-requires
 bottom-requires c κs = search needs
@@ -19,20 +20,20 @@ bottom-requires c κs = search needs
 level-of-requires : tie.Need-level-of-requires
 level-of-requires c κs =
     let g = c .before .before in
-    rw (c .bottom .ensures) (deep (g .args .ruler) (g .pre .0))
+    rw (c .bottom .ensures) (deep-ruler (g .args .ruler) (g .pre .0))
 
 power-requires : tie.Need-power-requires
 power-requires c κs =
     let g = c .before .before .before in
     let m = scale (g .args .ruler) .m in
     let level = rw (c .before .bottom .ensures) at (c .level-of .ensures) in
-    omega (arith, deep (g .args .ruler) (g .pre .0), placed m (g .args .k) _ _ (deep (g .args .ruler) (g .pre .0)) (g .pre .1) level refl .deep)
+    omega (arith, deep-ruler (g .args .ruler) (g .pre .0), placed m (g .args .k) _ _ (deep-ruler (g .args .ruler) (g .pre .0)) (g .pre .1) level refl .deep)
 
 sub-first : tie.Need-sub-first
 sub-first c =
     let g = c .before .before .before .before in
     let level = rw (c .before .before .bottom .ensures) at (c .before .level-of .ensures) in
-    placed _ (g .args .k) _ _ (deep (g .args .ruler) (g .pre .0)) (g .pre .1) level (c .power .ensures) .some
+    placed _ (g .args .k) _ _ (deep-ruler (g .args .ruler) (g .pre .0)) (g .pre .1) level (c .power .ensures) .some
 
 subdivision-of-requires : tie.Need-subdivision-of-requires
 subdivision-of-requires c κs = search needs
@@ -41,13 +42,13 @@ sub-in-row : tie.Need-sub-in-row
 sub-in-row c =
     let g = c .before .before .before .before .before in
     let level = rw (c .before .before .before .bottom .ensures) at (c .before .before .level-of .ensures) in
-    placed _ (g .args .k) _ _ (deep (g .args .ruler) (g .pre .0)) (g .pre .1) level (c .before .power .ensures) .after
+    placed _ (g .args .k) _ _ (deep-ruler (g .args .ruler) (g .pre .0)) (g .pre .1) level (c .before .power .ensures) .after
 
 in-row-requires : tie.Need-in-row-requires
 in-row-requires c κs =
     let g = c .before .before .before .before .before in
     let level = rw (c .before .before .before .bottom .ensures) at (c .before .before .level-of .ensures) in
-    let w = placed _ (g .args .k) _ _ (deep (g .args .ruler) (g .pre .0)) (g .pre .1) level (c .before .power .ensures) in
+    let w = placed _ (g .args .k) _ _ (deep-ruler (g .args .ruler) (g .pre .0)) (g .pre .1) level (c .before .power .ensures) in
     (g .pre .0, (w .deep, w .there))
 
 returns : tie.Need-returns
@@ -55,7 +56,7 @@ unfolding slotOk
 returns c =
     let g = c .before .before .before .before .before .before in
     let level = rw (c .before .before .before .before .bottom .ensures) at (c .before .before .before .level-of .ensures) in
-    let w = placed _ (g .args .k) _ _ (deep (g .args .ruler) (g .pre .0)) (g .pre .1) level (c .before .before .power .ensures) in
+    let w = placed _ (g .args .k) _ _ (deep-ruler (g .args .ruler) (g .pre .0)) (g .pre .1) level (c .before .before .power .ensures) in
     rw (c .in-row .ensures, w .place, level, c .before .subdivision-of .ensures)
 
 pub slot-ok-spec : {M : Type 1} → statement M

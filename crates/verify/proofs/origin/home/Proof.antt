@@ -2,9 +2,9 @@
 use Prim.Native.Nat.{_≤_}
 use Rattle.ruler.specs.Ruler.{scale}
 use Rattle.layout.specs.Stored.{isIn}
+use Rattle.layout.proofs.RulerCells.{deep-ruler, first-cell}
 use Rattle.verify.specs.Local.{home, homeAt}
-use Rattle.verify.proofs.Places.{deep}
-use Rattle.verify.proofs.Home.{start-lt, level-deep, place-there}
+use Rattle.verify.proofs.Home.{trip-fits, level-deep, place-there}
 use native.Mathlib.Omega.{arith}
 use borrow.Author.Needs.{needs}
 use Rattle.verify.proofs.origin.home.Statement.{statement}
@@ -23,7 +23,8 @@ home-level-requires : tie.Need-home-level-requires
 home-level-requires c κs =
     let g = c .before .before .before .before .before in
     let r = g .args .ruler in
-    rw (c .before .before .bottom .ensures, c .before .bottom-cell .ensures) (deep r (g .pre .0), start-lt r (g .args .t) (g .pre .0) (g .pre .1))
+    let first = first-cell r (g .pre .0) (g .args .t) (trip-fits r (g .args .t) (g .pre .0) (g .pre .1)) in
+    rw (c .before .before .bottom .ensures, c .before .bottom-cell .ensures) (deep-ruler r (g .pre .0), first)
 
 cell-at-requires : tie.Need-cell-at-requires
 cell-at-requires c κs =
@@ -45,7 +46,11 @@ slot-number-requires c κs =
     let k = c .before .before in
     let level = rw (k .before .before .before .bottom .ensures, k .before .before .bottom-cell .ensures, k .before .bottom-cell2 .ensures) at (k .home-level .ensures) in
     let h : c .before .before .home-level .result ≤ scale r .m = rw level (level-deep r (g .args .t) (g .pre .0) (g .pre .1)) in
-    (omega (arith, deep r (g .pre .0)), rw (c .before .cell-at .ensures) (place-there r (g .args .t) (g .pre .0) (g .pre .1) _ h))
+    let there = place-there r (g .args .t) (g .pre .0) (g .pre .1) _ h in
+    (omega (arith, deep-ruler r (g .pre .0)), omega (arith, c .before .cell-at .ensures))
+
+cast-result : tie.Need-cast-result
+cast-result c = search needs
 
 returns : tie.Need-returns
 unfolding home homeAt isIn
@@ -65,4 +70,5 @@ home-spec =
     cell-at-requires
     cell-at-requires-2
     slot-number-requires
+    cast-result
     returns)

@@ -7,7 +7,7 @@ use Rattle.layout.specs.Words.{partitions, halfLength}
 use Rattle.verify.specs.Local.{isKnown}
 use Rattle.verify.proofs.Home.{home-in}
 use Rattle.verify.proofs.Cut.{slot-in}
-use Rattle.verify.proofs.Halving.{slot-climbs}
+use Rattle.verify.proofs.Known.{slot-in-order}
 use borrow.Author.Needs.{needs}
 use Rattle.verify.proofs.origin.is_known.Statement.{statement}
 use Rattle.verify.proofs.origin.is_known.Tie as tie
@@ -32,7 +32,7 @@ slot-has-requires c κs =
     let fit = sym (c .before .before .fits2 .ensures) ∙ not-false _ (c .before .if1 .left) in
     let k = c .home .result in
     let l : k < 2 * partitions (scale r .m) = rw (c .home .ensures) (home-in r (g .args .t) (g .pre .0) fit) in
-    (slot-in dir originals _ (g .pre .1 .0) (g .pre .1 .1 .0) k l, slot-climbs (scale r) dir originals _ (g .pre .1 .0) (g .pre .1 .1 .1) k l)
+    (slot-in dir originals _ (g .pre .1 .0) (g .pre .1 .1 .0) k l, slot-in-order (scale r) dir originals _ (g .pre .1 .0) (g .pre .1 .1 .1) k l)
 
 returns-2 : tie.Need-returns-2
 unfolding isKnown

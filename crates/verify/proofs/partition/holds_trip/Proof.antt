@@ -1,7 +1,7 @@
 -- The partition is asked of the cells of the trip.
 use Rattle.layout.specs.Stored.{holdsTrip}
-use Rattle.verify.proofs.Places.{deep}
 use borrow.Author.Needs.{needs}
+use Rattle.layout.proofs.RulerCells.{deep-ruler}
 use Rattle.verify.proofs.partition.holds_trip.Statement.{statement}
 use Rattle.verify.proofs.partition.holds_trip.Tie as tie
 
@@ -17,7 +17,7 @@ bottom-cell-requires-2 c κs = search needs
 holds-requires : tie.Need-holds-requires
 holds-requires c κs =
     let g = c .before .before .before .before .before in
-    rw (c .before .before .bottom .ensures) (deep (g .args .ruler) (g .pre .0), g .pre .1 .0, g .pre .1 .1)
+    rw (c .before .before .bottom .ensures) (deep-ruler (g .args .ruler) (g .pre .0), g .pre .1 .0, g .pre .1 .1)
 
 returns : tie.Need-returns
 unfolding holdsTrip

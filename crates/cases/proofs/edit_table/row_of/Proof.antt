@@ -2,8 +2,8 @@
 use Prim.Native.Nat.{_≤_, _-_}
 use native.Mathlib.Omega.{arith}
 use borrow.Author.Needs.{needs}
-use Rattle.cases.proofs.edit_cases.row_of.Statement.{statement}
-use Rattle.cases.proofs.edit_cases.row_of.Tie as tie
+use Rattle.cases.proofs.edit_table.row_of.Statement.{statement}
+use Rattle.cases.proofs.edit_table.row_of.Tie as tie
 
 abbrev Inv-loop : tie.InvT-loop
 Inv-loop table rows id i₀ i = i ≤ rows
