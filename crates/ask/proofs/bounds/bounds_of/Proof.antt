@@ -1,4 +1,5 @@
 -- Each arm makes its row of the table.
+use mathlib.Core.Path.{refl, _∙_}
 use Rattle.ask.specs.Bounds.{boundsOf}
 use borrow.Author.Needs.{needs}
 use Rattle.ask.proofs.bounds.bounds_of.Statement.{statement}
@@ -174,59 +175,59 @@ new-requires-14 c κs = search needs
 
 returns : tie.Need-returns
 unfolding boundsOf
-returns c = rw (c .before .before .before .enum-told .given .1) cc
+returns c = c .new .ensures ∙ rw (c .before .before .before .enum-told .given .1, c .before .exactly2 .ensures, c .before .before .exactly .ensures) refl
 
 returns-2 : tie.Need-returns-2
 unfolding boundsOf
-returns-2 c = rw (c .before .before .before .enum-told2 .given .1) cc
+returns-2 c = c .new2 .ensures ∙ rw (c .before .before .before .enum-told2 .given .1, c .before .later .ensures, c .before .before .exactly3 .ensures) refl
 
 returns-3 : tie.Need-returns-3
 unfolding boundsOf
-returns-3 c = rw (c .before .before .before .enum-told3 .given .1) cc
+returns-3 c = c .new3 .ensures ∙ rw (c .before .before .before .enum-told3 .given .1, c .before .earlier .ensures, c .before .before .exactly4 .ensures) refl
 
 returns-4 : tie.Need-returns-4
 unfolding boundsOf
-returns-4 c = rw (c .before .before .before .enum-told4 .given .1) cc
+returns-4 c = c .new4 .ensures ∙ rw (c .before .before .before .enum-told4 .given .1, c .before .exactly5 .ensures, c .before .before .earlier2 .ensures) refl
 
 returns-5 : tie.Need-returns-5
 unfolding boundsOf
-returns-5 c = rw (c .before .before .before .enum-told5 .given .1) cc
+returns-5 c = c .new5 .ensures ∙ rw (c .before .before .before .enum-told5 .given .1, c .before .exactly6 .ensures, c .before .before .later2 .ensures) refl
 
 returns-6 : tie.Need-returns-6
 unfolding boundsOf
-returns-6 c = rw (c .before .before .before .enum-told6 .given .1) cc
+returns-6 c = c .new6 .ensures ∙ rw (c .before .before .before .enum-told6 .given .1, c .before .any .ensures, c .before .before .exactly7 .ensures) refl
 
 returns-7 : tie.Need-returns-7
 unfolding boundsOf
-returns-7 c = rw (c .before .before .before .enum-told7 .given .1) cc
+returns-7 c = c .new7 .ensures ∙ rw (c .before .before .before .enum-told7 .given .1, c .before .exactly8 .ensures, c .before .before .any2 .ensures) refl
 
 returns-8 : tie.Need-returns-8
 unfolding boundsOf
-returns-8 c = rw (c .before .before .before .enum-told8 .given .1) cc
+returns-8 c = c .new8 .ensures ∙ rw (c .before .before .before .enum-told8 .given .1, c .before .later3 .ensures, c .before .before .between .ensures) refl
 
 returns-9 : tie.Need-returns-9
 unfolding boundsOf
-returns-9 c = rw (c .before .before .before .enum-told9 .given .1) cc
+returns-9 c = c .new9 .ensures ∙ rw (c .before .before .before .enum-told9 .given .1, c .before .between2 .ensures, c .before .before .earlier3 .ensures) refl
 
 returns-10 : tie.Need-returns-10
 unfolding boundsOf
-returns-10 c = rw (c .before .before .before .enum-told10 .given .1) cc
+returns-10 c = c .new10 .ensures ∙ rw (c .before .before .before .enum-told10 .given .1, c .before .earlier4 .ensures, c .before .before .later4 .ensures) refl
 
 returns-11 : tie.Need-returns-11
 unfolding boundsOf
-returns-11 c = rw (c .before .before .before .enum-told11 .given .1) cc
+returns-11 c = c .new11 .ensures ∙ rw (c .before .before .before .enum-told11 .given .1, c .before .later5 .ensures, c .before .before .earlier5 .ensures) refl
 
 returns-12 : tie.Need-returns-12
 unfolding boundsOf
-returns-12 c = rw (c .before .before .before .enum-told12 .given .1) cc
+returns-12 c = c .new12 .ensures ∙ rw (c .before .before .before .enum-told12 .given .1, c .before .any3 .ensures, c .before .before .later6 .ensures) refl
 
 returns-13 : tie.Need-returns-13
 unfolding boundsOf
-returns-13 c = rw (c .before .before .before .enum-told13 .given .1) cc
+returns-13 c = c .new13 .ensures ∙ rw (c .before .before .before .enum-told13 .given .1, c .before .earlier6 .ensures, c .before .before .any4 .ensures) refl
 
 returns-14 : tie.Need-returns-14
 unfolding boundsOf
-returns-14 c = rw (c .before .before .before .enum-told14 .given .1) cc
+returns-14 c = c .new14 .ensures ∙ rw (c .before .before .before .enum-told14 .given .1, c .before .since .ensures, c .before .before .until .ensures) refl
 
 pub bounds-of-spec : {M : Type 1} → statement M
 bounds-of-spec =

@@ -39,7 +39,7 @@ mul-out c =
     let q = c .before .before .before .before .loop in
     let test = inside (g .bounds) in
     let l = g .part .now in
-    let e : test (tripAt l (q .i)) ≡ true = cc in
+    let e : test (tripAt l (q .i)) ≡ true = rw (← c .before .before .trip-at .ensures, ← c .before .hold .ensures) (c .if1 .taken) in
     omega (arith, hit-room test l (q .inv .2) e (omega arith) (omega arith))
 
 slice-write-out : tie.Need-slice-write-out Inv-loop μ-loop
@@ -49,7 +49,7 @@ slice-write-out c =
     let q = c .before .before .before .before .loop in
     let test = inside (g .bounds) in
     let l = g .part .now in
-    let e : test (tripAt l (q .i)) ≡ true = cc in
+    let e : test (tripAt l (q .i)) ≡ true = rw (← c .before .before .trip-at .ensures, ← c .before .hold .ensures) (c .if1 .taken) in
     hit-room test l (q .inv .2) e (omega arith) (omega arith)
 
 add-count : tie.Need-add-count Inv-loop μ-loop
@@ -59,7 +59,7 @@ add-count c =
     let q = c .before .before .before .before .loop in
     let test = inside (g .bounds) in
     let l = g .part .now in
-    let e : test (tripAt l (q .i)) ≡ true = cc in
+    let e : test (tripAt l (q .i)) ≡ true = rw (← c .before .before .trip-at .ensures, ← c .before .hold .ensures) (c .if1 .taken) in
     omega (arith, hit-room test l (q .inv .2) e (omega arith) (omega arith))
 
 add-i : tie.Need-add-i Inv-loop μ-loop
@@ -78,11 +78,11 @@ loop-again c =
     let trip = c .before .before .trip-at .ensures in
     ⊎-elim
     (λ w.
-    let e : test (tripAt l (q .i)) ≡ true = cc in
+    let e : test (tripAt l (q .i)) ≡ true = rw (← c .before .before .trip-at .ensures, ← c .before .hold .ensures) (w .0 .taken) in
     let f = hit-listed test l (q .inv .2) e (omega arith) (omega arith) {v = c .before .before .trip-at .result .id} (ap (λ (t : Trip). t .id) trip) in
     (omega arith, rw (w .1) (simp length-set (q .inv .1)), rw (w .1, w .2) f))
     (λ w.
-    let e : test (tripAt l (q .i)) ≡ false = cc in
+    let e : test (tripAt l (q .i)) ≡ false = rw (← c .before .before .trip-at .ensures, ← c .before .hold .ensures) (w .0 .left) in
     (omega arith, rw (w .1) (q .inv .1), rw (w .1, w .2) (miss-listed test l (q .i) (q .inv .2) e)))
     (c .if1 .came)
 
