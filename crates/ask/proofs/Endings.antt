@@ -8,7 +8,7 @@ use lib.Dec.{T, leb, ltb, nltb→le}
 use lib.ListN.{length, take, drop}
 use lib.Seq.{take-at, drop-at}
 use borrow.Author.Tests.{lt-ltb, le-ltb, ltb-false, not-false}
-use Rattle.lists.specs.Lists.{ascending}
+use Rattle.lists.specs.Lists.{ascending, over}
 use Rattle.lists.proofs.Tests.{of-and, to-T}
 use Rattle.lists.proofs.Members.{length-sort}
 use Rattle.ruler.specs.Ruler.{Scale}
@@ -22,7 +22,7 @@ use Rattle.layout.specs.declared.Refusal.{Refusal}
 use Rattle.layout.specs.declared.Refusal.the-variants.{OffRuler, Backward, NoRoom, NoRelationship}
 use Rattle.layout.specs.declared.Outcome.{Outcome}
 use Rattle.layout.specs.declared.Outcome.the-variants.{Accepted, Refused}
-use Rattle.layout.specs.Answers.{answer, answerTo, over}
+use Rattle.layout.specs.Answers.{answer, answerTo}
 use Rattle.layout.specs.Refusals.{refuse, offRuler, backward, exceeds, noSuchCode, timeTests, windowTests, roomTest, tableOf, checkOutcome, askOutcome}
 use Rattle.layout.specs.Calls.{ifAccepted, asked, askOf}
 use Rattle.layout.specs.Words.{Index}

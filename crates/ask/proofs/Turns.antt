@@ -5,11 +5,10 @@ use mathlib.Core.List.{List, [], _∷_, _++_, append-nil}
 use Prim.Native.Nat.{ℕ, _+_, _/_, _≤_, _<_}
 use native.Mathlib.Omega.{arith}
 use lib.ListN.{length, set, length-append}
-use Rattle.lists.specs.Lists.{keep, upTo}
+use Rattle.lists.specs.Lists.{keep, upTo, over}
 use Rattle.lists.proofs.Kept.{kept, kept-hit, kept-miss, kept-le}
 use Rattle.trip.specs.declared.Trip.{Trip}
 use Rattle.layout.specs.Words.{entryWords, tripAt, rows}
-use Rattle.layout.specs.Answers.{over}
 use Rattle.store.specs.Entries.{ids}
 use Rattle.ask.specs.Part.{Listed}
 use Rattle.ask.proofs.Written.{ids-append, ids-length, over-put, listed-length}

@@ -8,7 +8,7 @@ use native.Mathlib.Omega.{arith}
 use lib.ListN.{length, take, drop, getD, set, length-append, length-drop, length-map, drop-of-length-le}
 use lib.Seq.{take-all, drop-cons, drop-drop, take-at, drop-at, set-at, length-take-le}
 use Rattle.trip.specs.declared.Trip.{Trip}
-use Rattle.layout.specs.Answers.{over}
+use Rattle.lists.specs.Lists.{over}
 use Rattle.layout.proofs.Edits.{idOf}
 use Rattle.store.specs.Entries.{ids}
 use Rattle.ask.specs.Part.{Listed, ListedFrom}

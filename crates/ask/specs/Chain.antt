@@ -10,7 +10,8 @@ use Rattle.trip.specs.declared.Window.{Window}
 use Rattle.trip.specs.Relationships.{named}
 use Rattle.layout.specs.declared.Outcome.{Outcome}
 use Rattle.layout.specs.declared.Refusal.the-variants.{NoRelationship}
-use Rattle.layout.specs.Answers.{answerTo, over}
+use Rattle.layout.specs.Answers.{answerTo}
+use Rattle.lists.specs.Lists.{over}
 use Rattle.layout.specs.Refusals.{refuse, noSuchCode, windowTests, roomTest}
 use Rattle.layout.specs.Calls.{ifAccepted, Asked, asked}
 

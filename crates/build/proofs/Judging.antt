@@ -12,7 +12,7 @@ use borrow.Author.Tests.{lt-ltb, le-ltb}
 use Rattle.lists.proofs.Tests.{to-T, of-not-T}
 use Rattle.lists.proofs.Members.{none, more}
 use Rattle.lists.proofs.Halving.{at-mem}
-use Rattle.lists.proofs.Sums.{sumOver}
+use Rattle.lists.specs.Lists.{sumOver}
 use Rattle.ruler.specs.declared.Ruler.{Ruler}
 use Rattle.ruler.specs.Ruler.{Scale, before, scale}
 use Rattle.trip.specs.declared.Trip.{Trip}

@@ -12,7 +12,7 @@ ghost use mathlib.Core.Bool.{true, not};
 ghost use mathlib.Core.List.{[]};
 ghost use Prim.Native.Nat.{_/_, _<_, _≤_};
 ghost use lib.ListN.{length};
-ghost use Rattle.lists.proofs.Sums.{sumOver};
+ghost use Rattle.lists.specs.Lists.{sumOver};
 ghost use Rattle.ruler.specs.Ruler.{mostTrips, inBounds, scale};
 ghost use Rattle.layout.specs.Words.{entryWords, tripAt, rows};
 ghost use Rattle.layout.specs.Refusals.{isAccepted, hasId, noRoom, partitionsHolding, rowTests, firstBadRow};

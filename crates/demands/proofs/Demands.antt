@@ -6,7 +6,7 @@ use mathlib.Core.List.{List, [], _∷_, _++_, map, List·Memᴰ as Mem}
 use Prim.Native.Nat.{ℕ}
 use lib.Dec.{T, leb, ltb}
 use lib.ListN.{length}
-use Rattle.lists.specs.Lists.{keep}
+use Rattle.lists.specs.Lists.{keep, over}
 use Rattle.lists.proofs.Members.{of-keep, to-keep, of-sort, to-sort}
 use Rattle.lists.proofs.Sorting.{Sorted}
 use Rattle.ruler.specs.declared.Numbers.{Numbers}
@@ -22,7 +22,7 @@ use Rattle.layout.specs.declared.Refusal.{Refusal}
 use Rattle.layout.specs.declared.Outcome.{Outcome}
 use Rattle.layout.specs.declared.Outcome.the-variants.{Accepted, Refused}
 use Rattle.layout.specs.Words.{tripWords, words, rows, Index, lengthsOf, layout}
-use Rattle.layout.specs.Answers.{matches, answer, answerTo, over}
+use Rattle.layout.specs.Answers.{matches, answer, answerTo}
 use Rattle.layout.specs.Refusals.{addOutcome, removeOutcome, askOutcome, checkOutcome, runOutcome, tableOf}
 use Rattle.layout.specs.Calls.{ifAccepted, leaving, buildOf, addOf, removeOf, without, askOf, censusOf, noCensus, runOf}
 use Rattle.layout.proofs.Rows.{words-rows, words-cons}

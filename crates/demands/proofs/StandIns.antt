@@ -6,14 +6,14 @@ use mathlib.Core.List.{List, [], _∷_}
 use Prim.Native.Nat.{ℕ}
 use native.Mathlib.Omega.{arith}
 use lib.ListN.{length, getD}
-use Rattle.lists.specs.Lists.{every, same, count, padded, keep, insert, sort, joined, upTo}
+use Rattle.lists.specs.Lists.{every, same, count, padded, keep, insert, sort, joined, upTo, over}
 use Rattle.ruler.specs.Ruler.{Scale, timeAt, inBounds, scaleOf, cellUp, judge}
 use Rattle.trip.specs.declared.Trip.{Trip}
 use Rattle.trip.specs.declared.Window.{Window}
 use Rattle.trip.specs.Relationships.{codeOf, related}
 use Rattle.layout.specs.Stored.{partitionsAt, firstCell, lastCell, within, holds, holdsTrip, isOriginal, isIn, subdivisionOf, isOf, belongs}
 use Rattle.layout.specs.Words.{Index, entryWords, tripWords, tripAt, words, rows, partitions, directoryLength, halfLength, partitionNumber, levelOf, placeOf, slotNumber, byId, byStart, byEnd, order, slotTrips, slot, entriesBefore, entries, directoryHalf, arena, lengthsOf, layout}
-use Rattle.layout.specs.Answers.{matches, answer, answerTo, over, subdivisionNumber, subdivisionNumbered, levelCount, levelRow, census, halfOf, isAft, runWords, runFrom}
+use Rattle.layout.specs.Answers.{matches, answer, answerTo, subdivisionNumber, subdivisionNumbered, levelCount, levelRow, census, halfOf, isAft, runWords, runFrom}
 use Rattle.layout.specs.Refusals.{detailOf, isAccepted, refuse, outOfBounds, badSize, full, badDirectory, offRuler, backward, hasId, noRoom, exceeds, noSuchCode, partitionsHolding, inTooMany, noSuchSlot, timeTests, rowTests, firstBadRow, buildOutcome, tableOf, sameIndex, gives, isIndex, indexTests, addOutcome, removeOutcome, windowTests, roomTest, askOutcome, runOutcome, checkOutcome}
 use Rattle.layout.specs.Calls.{After, Asked, index, ifAccepted, leaving, buildOf, addOf, without, removeOf, askOf, noCensus, censusOf, runOf, runFromOf}
 

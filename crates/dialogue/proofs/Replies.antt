@@ -9,7 +9,8 @@ use lib.ListN.{length, take, drop, getD, set, length-append, length-set, length-
 use lib.Seq.{sets, sets-eq, length-sets, drop-cons, drop-length, drop-drop, take-all}
 use Rattle.lists.proofs.Stores.{sets-append}
 use Rattle.text.specs.Bytes.{space}
-use Rattle.text.specs.Decimal.{decimal, over}
+use Rattle.text.specs.Decimal.{decimal}
+use Rattle.lists.specs.Lists.{over}
 use Rattle.text.proofs.Writing.{ten-digits}
 use Rattle.dialogue.specs.Reply.{mostDigits, idBytes}
 

@@ -21,7 +21,8 @@ use Rattle.layout.specs.declared.Refusal.{Refusal}
 use Rattle.layout.specs.declared.Outcome.{Outcome}
 use Rattle.layout.specs.declared.Outcome.the-variants.{Accepted, Refused}
 use Rattle.layout.specs.Words.{partitions, directoryLength, Index}
-use Rattle.layout.specs.Answers.{answerTo, over}
+use Rattle.layout.specs.Answers.{answerTo}
+use Rattle.lists.specs.Lists.{over}
 use Rattle.layout.specs.Refusals.{isAccepted, tableOf, askOutcome}
 use Rattle.layout.specs.Calls.{index, After, after, Asked, asked, buildOf, askOf, ifAccepted}
 use Rattle.text.specs.declared.Command.{Command}

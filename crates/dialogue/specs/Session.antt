@@ -11,7 +11,7 @@ use Rattle.ruler.specs.Ruler.{timeAt, scaleOf}
 use Rattle.trip.specs.declared.Trip.{Trip}
 use Rattle.trip.specs.declared.Window.{Window}
 use Rattle.layout.specs.Words.{entryWords, directoryLength, Index}
-use Rattle.layout.specs.Answers.{over}
+use Rattle.lists.specs.Lists.{over}
 use Rattle.layout.specs.Refusals.{isAccepted}
 use Rattle.layout.specs.Calls.{index, After, Asked, buildOf, addOf, removeOf, askOf, ifAccepted}
 use Rattle.text.specs.declared.Command.{Command}

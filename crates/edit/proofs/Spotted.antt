@@ -16,7 +16,7 @@ use Rattle.ruler.proofs.Levels.{up-bottom}
 use Rattle.trip.specs.declared.Trip.{Trip}
 use Rattle.layout.specs.declared.Half.{Half}
 use Rattle.layout.specs.Walk.{slotsOf, slotsOfTrip}
-use Rattle.layout.specs.Answers.{over}
+use Rattle.lists.specs.Lists.{over}
 
 pub deep : (r : Ruler) → inBounds (r .numbers) ≡ true → scale r .m ≤ deepest
 unfolding scaleOf

@@ -14,7 +14,7 @@ ghost use Rattle.layout.specs.Words.{Index};
 ghost use Rattle.layout.specs.Refusals.{tableOf};
 ghost use Rattle.layout.specs.Calls.{without};
 ghost use Rattle.layout.specs.Walk.{slotsOfTrip};
-ghost use Rattle.layout.specs.Answers.{over};
+ghost use Rattle.lists.specs.Lists.{over};
 ghost use Rattle.store.specs.Places.{mostSlots};
 ghost use Rattle.edit.specs.Halves.{HalfOf, Adding, Removing};
 

@@ -9,10 +9,10 @@ use native.Mathlib.Omega.{arith}
 use lib.Dec.{eqb, eqb→eq}
 use lib.ListN.{length, length-append}
 use borrow.Author.Tests.{eq-eqb, ne-eqb}
-use Rattle.lists.specs.Lists.{consIf, keep, joined, oneMore, count}
+use Rattle.lists.specs.Lists.{consIf, keep, joined, oneMore, count, sumOver}
 use Rattle.lists.proofs.Members.{length-sort}
 use Rattle.lists.proofs.Counts.{count-none}
-use Rattle.lists.proofs.Sums.{sumTo, sumOver, exchange}
+use Rattle.lists.proofs.Sums.{sumTo, exchange}
 use Rattle.ruler.specs.Ruler.{Scale, mostTrips}
 use Rattle.trip.specs.declared.Trip.{Trip}
 use Rattle.layout.specs.declared.Half.{Half}

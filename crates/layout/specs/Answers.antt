@@ -1,9 +1,9 @@
 -- Document 01, "Relationships", what a question, the census and a run of a table give, as definitions.
 use mathlib.Core.Bool.{Bool, true, false, cond}
-use mathlib.Core.List.{List, [], _∷_, _++_, map}
+use mathlib.Core.List.{List, [], _∷_, map}
 use Prim.Native.Nat.{ℕ, suc, _+_, _*_}
 use lib.Dec.{leb}
-use lib.ListN.{length, getD, drop}
+use lib.ListN.{length, getD}
 use Rattle.lists.specs.Lists.{keep, ascending, joined, upTo}
 use Rattle.ruler.specs.Ruler.{Scale, deepest}
 use Rattle.trip.specs.declared.Trip.{Trip}
@@ -30,10 +30,6 @@ answer q ts = ascending (map (λ (t : Trip). t .id) (matches q ts))
 unfoldable pub answerTo : Named → Window → List Trip → List ℕ
 answerTo (As r) w ts = answer (record { window = w; relationship = r }) ts
 answerTo Nothing w ts = []
-
--- "in the answer list's first words, the ids in ascending order; later words stay"
-unfoldable pub over : (ids list : List ℕ) → List ℕ
-over ids list = ids ++ drop (length ids) list
 
 -- "O_in, O_aft, R_in, R_aft (subdivisions 0 to 3)"
 unfoldable pub subdivisionNumber : Subdivision → ℕ

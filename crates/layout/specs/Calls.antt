@@ -6,7 +6,7 @@ use mathlib.Core.List.{List, [], _∷_}
 use Prim.Native.Nat.{ℕ, suc}
 use lib.Dec.{eqb}
 use lib.ListN.{length, replicate}
-use Rattle.lists.specs.Lists.{keep}
+use Rattle.lists.specs.Lists.{keep, over}
 use Rattle.ruler.specs.Ruler.{Scale, deepest}
 use Rattle.trip.specs.declared.Trip.{Trip}
 use Rattle.trip.specs.declared.Window.{Window}
@@ -14,7 +14,7 @@ use Rattle.trip.specs.Relationships.{named}
 use Rattle.layout.specs.declared.Outcome.{Outcome}
 use Rattle.layout.specs.declared.Outcome.the-variants.{Accepted, Refused}
 use Rattle.layout.specs.Words.{rows, Index, lengthsOf, layout}
-use Rattle.layout.specs.Answers.{answerTo, over, lastSubdivision, subdivisionNumbered, census, runWords, runFrom}
+use Rattle.layout.specs.Answers.{answerTo, lastSubdivision, subdivisionNumbered, census, runWords, runFrom}
 use Rattle.layout.specs.Refusals.{tableOf, buildOutcome, addOutcome, removeOutcome, askOutcome, runOutcome, checkOutcome}
 
 module _ {A : Type 0} where
@@ -54,7 +54,7 @@ without i ts = keep (λ (t : Trip). not (eqb (t .id) i)) ts
 unfoldable pub removeOf : Scale → Index → (id : ℕ) → After
 removeOf s x i = leaving (removeOutcome s x i) x (layout s (without i (tableOf s x)) (lengthsOf x))
 
--- a question: "The answer is the count and, in the answer list's first words, the ids in ascending order; later words stay."
+-- a question: "The answer is the count and, in the answer list's first words, the ids in ascending order; later words stay": the ids `over` the list
 pub record Asked : Type 0 where
   pub outcome : Outcome
   pub count : ℕ

@@ -5,7 +5,7 @@ use mathlib.Core.List.{List, [], _∷_}
 use Prim.Native.Nat.{ℕ}
 use lib.Dec.{eqb}
 use lib.ListN.{length, replicate}
-use Rattle.lists.specs.Lists.{same}
+use Rattle.lists.specs.Lists.{same, over}
 use Rattle.ruler.specs.Ruler.{Scale, timeAt, scaleOf}
 use Rattle.trip.specs.declared.Trip.{Trip}
 use Rattle.trip.specs.declared.Window.{Window}
@@ -18,7 +18,7 @@ use Rattle.layout.specs.declared.Outcome.{Outcome}
 use Rattle.layout.specs.declared.Outcome.the-variants.{Accepted}
 use Rattle.layout.specs.Stored.{belongs}
 use Rattle.layout.specs.Words.{Index, Lengths, words, directoryLength, layout}
-use Rattle.layout.specs.Answers.{answer, over}
+use Rattle.layout.specs.Answers.{answer}
 use Rattle.layout.specs.Refusals.{numberOf, detailOf, full, partitionsHolding, buildOutcome, windowTests, askOutcome}
 use Rattle.layout.specs.Calls.{askOf}
 

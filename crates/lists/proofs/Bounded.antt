@@ -4,7 +4,7 @@ use mathlib.Core.List.{List, [], _∷_, List·Memᴰ as Mem, List·Memᴰ·head 
 use Prim.Native.Nat.{ℕ, _*_, _≤_}
 use native.Mathlib.Omega.{arith}
 use lib.ListN.{length}
-use Rattle.lists.proofs.Sums.{sumOver}
+use Rattle.lists.specs.Lists.{sumOver}
 
 pub sum-most : {A : Type 0} (f : A → ℕ) (b : ℕ) (l : List A) → ((x : A) → Mem x l → f x ≤ b) → sumOver f l ≤ length l * b
 unfolding sumOver

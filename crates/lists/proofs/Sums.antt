@@ -7,17 +7,12 @@ use Prim.Native.Nat.{ℕ, zero, suc, _+_, _*_, _≤_, _<_}
 use native.Mathlib.Omega.{arith}
 use native.Mathlib.Decide.{decLt}
 use lib.ListN.{length, length-append}
-use Rattle.lists.specs.Lists.{consIf, keep, joined, oneMore, count}
+use Rattle.lists.specs.Lists.{consIf, keep, joined, oneMore, count, sumOver}
 
 -- f 0 + f 1 + .. + f (n - 1)
 unfoldable pub sumTo : (ℕ → ℕ) → ℕ → ℕ
 sumTo f zero = 0
 sumTo f (suc n) = sumTo f n + f n
-
--- the sum of f over the members of a list
-unfoldable pub sumOver : {A : Type 0} → (A → ℕ) → List A → ℕ
-sumOver f [] = 0
-sumOver f (x ∷ l) = f x + sumOver f l
 
 pub length-joined : {A : Type 0} (f : ℕ → List A) (n : ℕ) → length (joined f n) ≡ sumTo (λ k. length (f k)) n
 unfolding joined sumTo

@@ -1,9 +1,9 @@
 -- Lists with tests that compute: what the definitions of the index are made of. Nothing here speaks of trips.
 use mathlib.Core.Bool.{Bool, true, false, cond, _&&_}
 use mathlib.Core.List.{List, [], _∷_, _++_}
-use Prim.Native.Nat.{ℕ, zero, suc, _-_}
+use Prim.Native.Nat.{ℕ, zero, suc, _+_, _-_}
 use lib.Dec.{leb, eqb}
-use lib.ListN.{length, replicate}
+use lib.ListN.{length, drop, replicate}
 
 -- every test passes
 unfoldable pub every : List Bool → Bool
@@ -31,7 +31,16 @@ count f (suc n) = oneMore (f n) (count f n)
 unfoldable pub padded : ℕ → List ℕ → List ℕ
 padded n l = l ++ replicate (n - length l) 0
 
+-- the words l over the first of a list, whose later words stay
+unfoldable pub over : (l list : List ℕ) → List ℕ
+over l list = l ++ drop (length l) list
+
 module _ {A : Type 0} where
+  -- the sum of f over the members of a list
+  unfoldable pub sumOver : (A → ℕ) → List A → ℕ
+  sumOver f [] = 0
+  sumOver f (x ∷ l) = f x + sumOver f l
+
   -- the list, with x in front where the test passes
   abbrev pub consIf : Bool → A → List A → List A
   consIf true x l = x ∷ l

@@ -9,13 +9,12 @@ use lib.Dec.{T, leb, ltb, ltb→lt}
 use lib.ListN.{length, getD, take, drop, drop-of-length-le}
 use lib.Seq.{drop-cons, take-at}
 use borrow.Author.Tests.{lt-ltb, le-ltb}
-use Rattle.lists.specs.Lists.{insert, sort, ascending}
+use Rattle.lists.specs.Lists.{insert, sort, ascending, over}
 use Rattle.lists.proofs.Tests.{of-and, to-and}
 use Rattle.lists.proofs.Members.{none, more, to-insert, to-sort, length-sort}
 use Rattle.lists.proofs.Sorting.{Sorted, Differ, below, differ-apart, ascending-below, sorted-sort}
 use Rattle.lists.proofs.Upto.{length-upTo}
 use Rattle.trip.specs.declared.Trip.{Trip}
-use Rattle.layout.specs.Answers.{over}
 use Rattle.layout.specs.Words.{entryWords, rows}
 use Rattle.layout.proofs.RowOrder.{Distinct}
 use Rattle.store.specs.Entries.{ids}

@@ -13,7 +13,7 @@ use borrow.Author.Tests.{lt-ltb}
 use Rattle.lists.proofs.Stores.{sets-append}
 use Rattle.ruler.specs.Ruler.{deepest}
 use Rattle.layout.specs.declared.Half.{Half}
-use Rattle.layout.specs.Answers.{over}
+use Rattle.lists.specs.Lists.{over}
 use Rattle.layout.specs.Walk.{visit, walk, slotsOf}
 use Rattle.layout.proofs.Walk.{visit-few, walk-few}
 

@@ -9,7 +9,7 @@ ghost use lib.Seq.{sets};
 ghost use Rattle.ruler.specs.Ruler.{deepest};
 ghost use Rattle.layout.specs.Words.{slotNumber};
 ghost use Rattle.layout.specs.Walk.{inHalf, visit, slotsOf};
-ghost use Rattle.layout.specs.Answers.{over};
+ghost use Rattle.lists.specs.Lists.{over};
 ghost use Rattle.store.specs.Places.{mostSlots};
 
 // Two slots of each level: more are never visited.

@@ -12,7 +12,8 @@ use lib.Dec.{ltb, lit<}
 use lib.ListN.{length, take, drop, set, length-append}
 use lib.Seq.{set-split, drop-at, length-take-le, append-snoc}
 use Rattle.text.specs.Number.{base, mostDigits}
-use Rattle.text.specs.Decimal.{digit, decimalIn, decimal, over, written, writtenOf}
+use Rattle.text.specs.Decimal.{digit, decimalIn, decimal, written, writtenOf}
+use Rattle.lists.specs.Lists.{over}
 
 -- ---- The digits
 

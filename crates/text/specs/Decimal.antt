@@ -3,7 +3,8 @@ use mathlib.Core.Bool.{cond}
 use mathlib.Core.List.{List, [], _∷_, _++_}
 use Prim.Native.Nat.{ℕ, zero, suc, _+_, _/_, _%_}
 use lib.Dec.{leb, ltb}
-use lib.ListN.{length, drop}
+use lib.ListN.{length}
+use Rattle.lists.specs.Lists.{over}
 use Rattle.text.specs.Number.{base, digitZero}
 
 abbrev pub digit : ℕ → ℕ
@@ -20,10 +21,6 @@ decimalIn (suc k) n =
 -- Taking a tenth n times leaves less than ten, so n + 1 digits leave none out
 unfoldable pub decimal : ℕ → List ℕ
 decimal n = decimalIn (suc n) n
-
--- bytes over the front of a list
-unfoldable pub over : List ℕ → List ℕ → List ℕ
-over xs l = xs ++ drop (length xs) l
 
 -- what a writer leaves: how many bytes it wrote, and the whole list
 pub record Written : Type 0 where

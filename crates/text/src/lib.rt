@@ -7,7 +7,8 @@ ghost use Rattle.text.specs.Bytes.{space, parted, placeOf};
 ghost use Rattle.text.specs.Number.{numberOf};
 ghost use Rattle.text.specs.Command.{followedBy, numbersOf, formOf, commandOf};
 ghost use Rattle.text.specs.Lines.{lineEnd};
-ghost use Rattle.text.specs.Decimal.{decimal, over, written, writtenOf};
+ghost use Rattle.text.specs.Decimal.{decimal, written, writtenOf};
+ghost use Rattle.lists.specs.Lists.{over};
 
 // The byte between the fields of a line, and the one between lines.
 const SPACE: u8 = b' ';

@@ -7,11 +7,10 @@ use native.Mathlib.Omega.{arith}
 use lib.Dec.{T, leb, eqb, leb→le, le→leb, eqb→eq, eqb-refl}
 use lib.ListN.{length, take, drop, length-drop}
 use lib.Seq.{length-take-le, take-all}
-use Rattle.lists.specs.Lists.{joined}
+use Rattle.lists.specs.Lists.{joined, sumOver}
 use Rattle.lists.proofs.Tests.{of-and, to-and, to-T}
 use Rattle.lists.proofs.Members.{In, of-joined, to-joined}
 use Rattle.lists.proofs.Sublists.{joined-ext}
-use Rattle.lists.proofs.Sums.{sumOver}
 use Rattle.ruler.specs.declared.Ruler.{Ruler}
 use Rattle.ruler.specs.Ruler.{Scale, mostTrips, deepest, inBounds, scale, scaleOf}
 use Rattle.ruler.proofs.Fair.{Fair}

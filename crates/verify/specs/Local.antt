@@ -4,7 +4,7 @@ use mathlib.Core.List.{List}
 use Prim.Native.Nat.{ℕ, zero, suc, _+_, _-_, _*_, _/_, _%_, _≤_, _<_}
 use lib.Dec.{leb, eqb}
 use lib.ListN.{length, getD, take, drop}
-use Rattle.lists.proofs.Sums.{sumOver}
+use Rattle.lists.specs.Lists.{sumOver}
 use Rattle.ruler.specs.Ruler.{Scale, mostTrips, sameTime, noLater, cellUp}
 use Rattle.trip.specs.declared.Trip.{Trip}
 use Rattle.layout.specs.declared.Half.{Half}

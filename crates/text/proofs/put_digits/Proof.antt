@@ -6,7 +6,8 @@ use Prim.Native.Nat.{_+_, _/_, _<_}
 use native.Mathlib.Omega.{arith}
 use lib.ListN.{length, length-set}
 use Rattle.text.specs.Number.{base}
-use Rattle.text.specs.Decimal.{decimal, over}
+use Rattle.text.specs.Decimal.{decimal}
+use Rattle.lists.specs.Lists.{over}
 use Rattle.text.proofs.Writing.{length-more, some-digit, put-more, put-last}
 use Rattle.text.proofs.put_digits.Statement.{statement}
 use Rattle.text.proofs.put_digits.Tie as tie

@@ -2,7 +2,7 @@
 use mathlib.Core.Path.{_≡_, sym, ap, subst, _∙_}
 use Prim.Native.Nat.{_+_, _-_, _*_, _/_, _≤_}
 use lib.ListN.{length, drop}
-use Rattle.lists.proofs.Sums.{sumOver}
+use Rattle.lists.specs.Lists.{sumOver}
 use Rattle.ruler.specs.Ruler.{scale}
 use Rattle.layout.specs.Words.{entryWords, tripAt, rows}
 use Rattle.layout.specs.Refusals.{mostPartitions, partitionsHolding}

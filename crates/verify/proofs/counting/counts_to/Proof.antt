@@ -4,7 +4,7 @@ use mathlib.Core.Bool.{true, false}
 use Prim.Native.Nat.{_+_, _-_, _*_, _≤_}
 use lib.ListN.{drop}
 use borrow.Author.Tests.{not-true, not-false}
-use Rattle.lists.proofs.Sums.{sumOver}
+use Rattle.lists.specs.Lists.{sumOver}
 use Rattle.ruler.specs.Ruler.{scale}
 use Rattle.layout.specs.Words.{entryWords, tripAt, rows}
 use Rattle.layout.specs.Refusals.{mostPartitions, partitionsHolding}
