@@ -5,7 +5,7 @@ use crate::reply;
 use layout::Outcome;
 use ruler::Numbers;
 use ruler::Time;
-use ruler::power;
+use store::counting::directory_length;
 use text::Command;
 use trip::Trip;
 use trip::Window;
@@ -14,7 +14,7 @@ ghost use mathlib.Core.Bool.{true};
 ghost use mathlib.Core.List.{List};
 ghost use Prim.Native.Nat.{ℕ, _+_, _*_, _≤_};
 ghost use lib.ListN.{length};
-ghost use Rattle.ruler.specs.Ruler.{deepest, scaleOf};
+ghost use Rattle.ruler.specs.Ruler.{scaleOf};
 ghost use Rattle.layout.specs.Words.{directoryLength, Index};
 ghost use Rattle.layout.specs.Refusals.{isAccepted};
 ghost use Rattle.layout.specs.Calls.{index, addOf, removeOf, askOf};
@@ -25,14 +25,6 @@ ghost use Rattle.dialogue.specs.Session.{deepestHere, mostAnswers, state
 
 // The deepest level that a D line may name.
 const DEEPEST_HERE: u32 = 8;
-
-// The words of a directory for levels 0 to m.
-fn directory_words(m: u32) -> usize
-    requires { ⌜ m ≤ deepest ⌝ }
-    ensures { λ r. ⌜ r ≡ directoryLength m ⌝ }
-{
-    4 * (power(m + 1) as usize - 1) + 2
-}
 
 fn is_accepted(outcome: Outcome) -> bool
     ensures { λ r. ⌜ r ≡ isAccepted outcome ⌝ }
@@ -71,7 +63,7 @@ fn open_turn(
     requires { ⌜ (numbers .m ≤ deepestHere) × (directoryLength deepestHere ≤ length (now directory)) × (shortReply ≤ length (now reply)) ⌝ }
     ensures { λ r. ⌜ ((l : List ℕ) → Done (opened (state desk (index (now (directory .entry)) (now (originals .entry)) (now (replicas .entry))) l) numbers) r (index (now (directory .exit)) (now (originals .exit)) (now (replicas .exit))) l (now (reply .entry)) (now (reply .exit))) ⌝ }
 {
-    let n = directory_words(numbers.m);
+    let n = directory_length(numbers.m);
     let no_rows = [0u32; 1];
     let outcome = build::build(
         numbers,
@@ -105,7 +97,7 @@ fn add_turn(
     ensures { λ r. ⌜ ((l : List ℕ) → Done (edited (state desk (index (now (directory .entry)) (now (originals .entry)) (now (replicas .entry))) l) (addOf (scaleOf (desk .numbers)) (shown (desk .numbers) (index (now (directory .entry)) (now (originals .entry)) (now (replicas .entry)))) t)) r (index (now (directory .exit)) (now (originals .exit)) (now (replicas .exit))) l (now (reply .entry)) (now (reply .exit))) ⌝ }
 {
     let numbers = desk.numbers;
-    let n = directory_words(numbers.m);
+    let n = directory_length(numbers.m);
     let outcome = edit::add(numbers, &mut directory[0..n], originals, replicas, t);
     let written = reply::put_outcome(reply, outcome);
     Turned {
@@ -128,7 +120,7 @@ fn remove_turn(
     ensures { λ r. ⌜ ((l : List ℕ) → Done (edited (state desk (index (now (directory .entry)) (now (originals .entry)) (now (replicas .entry))) l) (removeOf (scaleOf (desk .numbers)) (shown (desk .numbers) (index (now (directory .entry)) (now (originals .entry)) (now (replicas .entry)))) id)) r (index (now (directory .exit)) (now (originals .exit)) (now (replicas .exit))) l (now (reply .entry)) (now (reply .exit))) ⌝ }
 {
     let numbers = desk.numbers;
-    let n = directory_words(numbers.m);
+    let n = directory_length(numbers.m);
     let outcome = edit::remove(numbers, &mut directory[0..n], originals, replicas, id);
     let written = reply::put_outcome(reply, outcome);
     Turned {
@@ -153,7 +145,7 @@ fn ask_turn(
     ensures { λ r. ⌜ Done (answered (state desk (index (now (directory .entry)) (now (originals .entry)) (now (replicas .entry))) (now (answers .entry))) (askOf (scaleOf (desk .numbers)) (shown (desk .numbers) (index (now (directory .entry)) (now (originals .entry)) (now (replicas .entry)))) code window (now (answers .entry)))) r (index (now (directory .entry)) (now (originals .entry)) (now (replicas .entry))) (now (answers .exit)) (now (reply .entry)) (now (reply .exit)) ⌝ }
 {
     let numbers = desk.numbers;
-    let n = directory_words(numbers.m);
+    let n = directory_length(numbers.m);
     let asked = ask::ask(
         numbers,
         &directory[0..n],

@@ -12,8 +12,8 @@ use borrow.Author.Needs.{needs}
 use Rattle.dialogue.proofs.turn.add_turn.Statement.{statement}
 use Rattle.dialogue.proofs.turn.add_turn.Tie as tie
 
-directory-words-requires : tie.Need-directory-words-requires
-directory-words-requires c κs = search needs
+directory-length-requires : tie.Need-directory-length-requires
+directory-length-requires c κs = search needs
 
 sub-add : tie.Need-sub-add
 sub-add c = search needs
@@ -22,7 +22,7 @@ part-add-start : tie.Need-part-add-start
 part-add-start c = search needs
 
 part-add-end : tie.Need-part-add-end
-part-add-end c = rw (c .directory-words .ensures) (le-trans (fits (c .before .before .before .before .before .before .args .desk .numbers .m) (c .before .before .before .before .before .before .pre .0)) (c .before .before .before .before .before .before .pre .1))
+part-add-end c = rw (c .directory-length .ensures) (le-trans (fits (c .before .before .before .before .before .before .args .desk .numbers .m) (c .before .before .before .before .before .before .pre .0)) (c .before .before .before .before .before .before .pre .1))
 
 add-requires : tie.Need-add-requires
 add-requires c κs = search needs
@@ -45,18 +45,18 @@ same-length-4 c = search needs
 returns : tie.Need-returns
 returns c =
     let a = c .before .before .before .before .before .before .before .before .before .before .before .before .before .before .before .before .before .before .before .before .args in
-    let n = c .before .before .before .before .before .before .before .before .before .before .before .before .before .before .directory-words .result in
+    let n = c .before .before .before .before .before .before .before .before .before .before .before .before .before .before .directory-length .result in
     let long = le-trans (fits (a .desk .numbers .m) (c .before .before .before .before .before .before .before .before .before .before .before .before .before .before .before .before .before .before .before .before .pre .0)) (c .before .before .before .before .before .before .before .before .before .before .before .before .before .before .before .before .before .before .before .before .pre .1) in
-    let lent = mid-len 0 n (a .directory .now) (rw (c .before .before .before .before .before .before .before .before .before .before .before .before .before .before .directory-words .ensures) long) in
+    let lent = mid-len 0 n (a .directory .now) (rw (c .before .before .before .before .before .before .before .before .before .before .before .before .before .before .directory-length .ensures) long) in
     let kept : length (c .before .before .before .before .before .before .before .before .before .before .add .last .1 .0) ≡ n = omega (arith, lent, c .before .before .before .before .before .before .before .before .before .directory .given) in
     let call : Index → After = λ x. addOf (scaleOf (a .desk .numbers)) x (a .t) in
-    λ l. edited-done (a .desk .numbers) (a .directory .now) (a .originals .now) (a .replicas .now) n (a .desk) l call (c .before .before .before .before .before .before .before .before .before .before .before .before .before .before .directory-words .ensures) kept (c .before .before .before .before .before .before .before .before .before .before .add .ensures) (c .before .before .put-outcome .ensures)
+    λ l. edited-done (a .desk .numbers) (a .directory .now) (a .originals .now) (a .replicas .now) n (a .desk) l call (c .before .before .before .before .before .before .before .before .before .before .before .before .before .before .directory-length .ensures) kept (c .before .before .before .before .before .before .before .before .before .before .add .ensures) (c .before .before .put-outcome .ensures)
 
 pub add-turn-spec : {M : Type 1} → statement M
 add-turn-spec =
     tie.close
     (tie.spec
-    directory-words-requires
+    directory-length-requires
     sub-add
     part-add-start
     part-add-end

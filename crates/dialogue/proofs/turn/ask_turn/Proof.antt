@@ -1,3 +1,4 @@
+-- The answers of the question on the part of the directory that is in use: the list of ids, or the refusal.
 use borrow.Rule.Slice.PartMut.{mid-len}
 -- The front of the directory is asked, and the ids or the refusal are written.
 use Rattle.dialogue.proofs.Turns.{fits, answered-done, count-within, listed, refused}
@@ -12,8 +13,8 @@ use borrow.Author.Needs.{needs}
 use Rattle.dialogue.proofs.turn.ask_turn.Statement.{statement}
 use Rattle.dialogue.proofs.turn.ask_turn.Tie as tie
 
-directory-words-requires : tie.Need-directory-words-requires
-directory-words-requires c κs = search needs
+directory-length-requires : tie.Need-directory-length-requires
+directory-length-requires c κs = search needs
 
 sub-ask : tie.Need-sub-ask
 sub-ask c = search needs
@@ -22,7 +23,7 @@ part-ask-start : tie.Need-part-ask-start
 part-ask-start c = search needs
 
 part-ask-end : tie.Need-part-ask-end
-part-ask-end c = rw (c .directory-words .ensures) (le-trans (fits (c .before .before .before .before .before .before .before .args .desk .numbers .m) (c .before .before .before .before .before .before .before .pre .0)) (c .before .before .before .before .before .before .before .pre .1))
+part-ask-end c = rw (c .directory-length .ensures) (le-trans (fits (c .before .before .before .before .before .before .before .args .desk .numbers .m) (c .before .before .before .before .before .before .before .pre .0)) (c .before .before .before .before .before .before .before .pre .1))
 
 ask-requires : tie.Need-ask-requires
 ask-requires c κs = search needs
@@ -70,7 +71,7 @@ returns c =
     let call : Index → Asked = λ x. askOf (scaleOf (c .before .before .before .before .before .before .before .before .before .before .before .before .before .before .before .before .before .before .before .before .before .args .desk .numbers)) x (c .before .before .before .before .before .before .before .before .before .before .before .before .before .before .before .before .before .before .before .before .before .args .code) (c .before .before .before .before .before .before .before .before .before .before .before .before .before .before .before .before .before .before .before .before .before .args .window) (c .before .before .before .before .before .before .before .before .before .before .before .before .before .before .before .before .before .before .before .before .before .args .answers .now) in
     let l = c .before .before .before .before .before .before .before .before .before .before .before .ask .last .1 .1 .1 .1 .1 .1 .0 in
     let bytes = listed l (c .before .before .before .before .before .before .before .before .before .before .before .ask .result .count) (c .before .before .before .before .before .before .enum-told .given .1) in
-    answered-done (a .desk .numbers) (a .directory .now) (a .originals .now) (a .replicas .now) (c .before .before .before .before .before .before .before .before .before .before .before .before .before .before .directory-words .result) (a .desk) (a .answers .now) call (c .before .before .before .before .before .before .before .before .before .before .before .before .before .before .directory-words .ensures) (c .before .before .before .before .before .before .before .before .before .before .before .ask .ensures) _ bytes (c .before .before .put-answer .ensures)
+    answered-done (a .desk .numbers) (a .directory .now) (a .originals .now) (a .replicas .now) (c .before .before .before .before .before .before .before .before .before .before .before .before .before .before .directory-length .result) (a .desk) (a .answers .now) call (c .before .before .before .before .before .before .before .before .before .before .before .before .before .before .directory-length .ensures) (c .before .before .before .before .before .before .before .before .before .before .before .ask .ensures) _ bytes (c .before .before .put-answer .ensures)
 
 enum-told-2 : tie.Need-enum-told-2
 enum-told-2 c = search needs
@@ -89,13 +90,13 @@ returns-2 c =
     let a = c .before .before .before .before .before .before .before .before .before .before .before .before .before .before .before .before .before .before .before .args in
     let call : Index → Asked = λ x. askOf (scaleOf (c .before .before .before .before .before .before .before .before .before .before .before .before .before .before .before .before .before .before .before .args .desk .numbers)) x (c .before .before .before .before .before .before .before .before .before .before .before .before .before .before .before .before .before .before .before .args .code) (c .before .before .before .before .before .before .before .before .before .before .before .before .before .before .before .before .before .before .before .args .window) (c .before .before .before .before .before .before .before .before .before .before .before .before .before .before .before .before .before .before .before .args .answers .now) in
     let bytes = refused _ (c .before .before .before .before .enum-told2 .given .1) in
-    answered-done (a .desk .numbers) (a .directory .now) (a .originals .now) (a .replicas .now) (c .before .before .before .before .before .before .before .before .before .before .before .before .directory-words .result) (a .desk) (a .answers .now) call (c .before .before .before .before .before .before .before .before .before .before .before .before .directory-words .ensures) (c .before .before .before .before .before .before .before .before .before .ask .ensures) _ bytes (c .before .before .put-outcome .ensures)
+    answered-done (a .desk .numbers) (a .directory .now) (a .originals .now) (a .replicas .now) (c .before .before .before .before .before .before .before .before .before .before .before .before .directory-length .result) (a .desk) (a .answers .now) call (c .before .before .before .before .before .before .before .before .before .before .before .before .directory-length .ensures) (c .before .before .before .before .before .before .before .before .before .ask .ensures) _ bytes (c .before .before .put-outcome .ensures)
 
 pub ask-turn-spec : {M : Type 1} → statement M
 ask-turn-spec =
     tie.close
     (tie.spec
-    directory-words-requires
+    directory-length-requires
     sub-ask
     part-ask-start
     part-ask-end

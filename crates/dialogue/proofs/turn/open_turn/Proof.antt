@@ -1,3 +1,4 @@
+-- The index of an empty table, in the part of the directory that its levels use.
 use borrow.Rule.Slice.PartMut.{mid-len}
 use lib.ListN.{length}
 use mathlib.Core.Path.{_≡_, refl}
@@ -9,8 +10,8 @@ use borrow.Author.Needs.{needs}
 use Rattle.dialogue.proofs.turn.open_turn.Statement.{statement}
 use Rattle.dialogue.proofs.turn.open_turn.Tie as tie
 
-directory-words-requires : tie.Need-directory-words-requires
-directory-words-requires c κs = search needs
+directory-length-requires : tie.Need-directory-length-requires
+directory-length-requires c κs = search needs
 
 sub-build : tie.Need-sub-build
 sub-build c = search needs
@@ -28,7 +29,7 @@ part-build-start-2 : tie.Need-part-build-start-2
 part-build-start-2 c = search needs
 
 part-build-end-2 : tie.Need-part-build-end-2
-part-build-end-2 c = rw (c .before .before .directory-words .ensures) (le-trans (fits (c .before .before .before .before .before .before .before .args .numbers .m) (c .before .before .before .before .before .before .before .pre .0)) (c .before .before .before .before .before .before .before .pre .1))
+part-build-end-2 c = rw (c .before .before .directory-length .ensures) (le-trans (fits (c .before .before .before .before .before .before .before .args .numbers .m) (c .before .before .before .before .before .before .before .pre .0)) (c .before .before .before .before .before .before .before .pre .1))
 
 build-requires : tie.Need-build-requires
 build-requires c κs = search needs
@@ -54,17 +55,17 @@ same-length-4 c = search needs
 returns : tie.Need-returns
 returns c =
     let a = c .before .before .before .before .before .before .before .before .before .before .before .before .before .before .before .before .before .before .before .before .before .before .args in
-    let n = c .before .before .before .before .before .before .before .before .before .before .before .before .before .before .before .before .before .directory-words .result in
+    let n = c .before .before .before .before .before .before .before .before .before .before .before .before .before .before .before .before .before .directory-length .result in
     let long = le-trans (fits (a .numbers .m) (c .before .before .before .before .before .before .before .before .before .before .before .before .before .before .before .before .before .before .before .before .before .before .pre .0)) (c .before .before .before .before .before .before .before .before .before .before .before .before .before .before .before .before .before .before .before .before .before .before .pre .1) in
-    let lent = mid-len 0 n (a .directory .now) (rw (c .before .before .before .before .before .before .before .before .before .before .before .before .before .before .before .before .before .directory-words .ensures) long) in
+    let lent = mid-len 0 n (a .directory .now) (rw (c .before .before .before .before .before .before .before .before .before .before .before .before .before .before .before .before .before .directory-length .ensures) long) in
     let kept : length (c .before .before .before .before .before .before .before .before .before .before .before .build .last .1 .1 .0) ≡ n = omega (arith, lent, c .before .before .before .before .before .before .before .before .before .before .directory .given) in
-    λ l. opened-done (a .numbers) (a .directory .now) (a .originals .now) (a .replicas .now) n (a .desk) l (c .before .before .before .before .before .before .before .before .before .before .before .before .before .before .before .before .before .directory-words .ensures) kept refl (c .before .before .before .before .before .before .before .before .before .before .before .build .ensures) (c .is-accepted .ensures) (c .before .before .before .put-outcome .ensures)
+    λ l. opened-done (a .numbers) (a .directory .now) (a .originals .now) (a .replicas .now) n (a .desk) l (c .before .before .before .before .before .before .before .before .before .before .before .before .before .before .before .before .before .directory-length .ensures) kept refl (c .before .before .before .before .before .before .before .before .before .before .before .build .ensures) (c .is-accepted .ensures) (c .before .before .before .put-outcome .ensures)
 
 pub open-turn-spec : {M : Type 1} → statement M
 open-turn-spec =
     tie.close
     (tie.spec
-    directory-words-requires
+    directory-length-requires
     sub-build
     part-build-start
     part-build-end

@@ -12,8 +12,8 @@ use borrow.Author.Needs.{needs}
 use Rattle.dialogue.proofs.turn.remove_turn.Statement.{statement}
 use Rattle.dialogue.proofs.turn.remove_turn.Tie as tie
 
-directory-words-requires : tie.Need-directory-words-requires
-directory-words-requires c κs = search needs
+directory-length-requires : tie.Need-directory-length-requires
+directory-length-requires c κs = search needs
 
 sub-remove : tie.Need-sub-remove
 sub-remove c = search needs
@@ -22,7 +22,7 @@ part-remove-start : tie.Need-part-remove-start
 part-remove-start c = search needs
 
 part-remove-end : tie.Need-part-remove-end
-part-remove-end c = rw (c .directory-words .ensures) (le-trans (fits (c .before .before .before .before .before .before .args .desk .numbers .m) (c .before .before .before .before .before .before .pre .0)) (c .before .before .before .before .before .before .pre .1))
+part-remove-end c = rw (c .directory-length .ensures) (le-trans (fits (c .before .before .before .before .before .before .args .desk .numbers .m) (c .before .before .before .before .before .before .pre .0)) (c .before .before .before .before .before .before .pre .1))
 
 remove-requires : tie.Need-remove-requires
 remove-requires c κs = search needs
@@ -45,18 +45,18 @@ same-length-4 c = search needs
 returns : tie.Need-returns
 returns c =
     let a = c .before .before .before .before .before .before .before .before .before .before .before .before .before .before .before .before .before .before .before .before .args in
-    let n = c .before .before .before .before .before .before .before .before .before .before .before .before .before .before .directory-words .result in
+    let n = c .before .before .before .before .before .before .before .before .before .before .before .before .before .before .directory-length .result in
     let long = le-trans (fits (a .desk .numbers .m) (c .before .before .before .before .before .before .before .before .before .before .before .before .before .before .before .before .before .before .before .before .pre .0)) (c .before .before .before .before .before .before .before .before .before .before .before .before .before .before .before .before .before .before .before .before .pre .1) in
-    let lent = mid-len 0 n (a .directory .now) (rw (c .before .before .before .before .before .before .before .before .before .before .before .before .before .before .directory-words .ensures) long) in
+    let lent = mid-len 0 n (a .directory .now) (rw (c .before .before .before .before .before .before .before .before .before .before .before .before .before .before .directory-length .ensures) long) in
     let kept : length (c .before .before .before .before .before .before .before .before .before .before .remove .last .1 .0) ≡ n = omega (arith, lent, c .before .before .before .before .before .before .before .before .before .directory .given) in
     let call : Index → After = λ x. removeOf (scaleOf (a .desk .numbers)) x (a .id) in
-    λ l. edited-done (a .desk .numbers) (a .directory .now) (a .originals .now) (a .replicas .now) n (a .desk) l call (c .before .before .before .before .before .before .before .before .before .before .before .before .before .before .directory-words .ensures) kept (c .before .before .before .before .before .before .before .before .before .before .remove .ensures) (c .before .before .put-outcome .ensures)
+    λ l. edited-done (a .desk .numbers) (a .directory .now) (a .originals .now) (a .replicas .now) n (a .desk) l call (c .before .before .before .before .before .before .before .before .before .before .before .before .before .before .directory-length .ensures) kept (c .before .before .before .before .before .before .before .before .before .before .remove .ensures) (c .before .before .put-outcome .ensures)
 
 pub remove-turn-spec : {M : Type 1} → statement M
 remove-turn-spec =
     tie.close
     (tie.spec
-    directory-words-requires
+    directory-length-requires
     sub-remove
     part-remove-start
     part-remove-end
