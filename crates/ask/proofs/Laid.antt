@@ -29,11 +29,11 @@ use Rattle.layout.proofs.RowOrder.{Distinct}
 use Rattle.layout.proofs.Local.{slot-sorted}
 use Rattle.layout.proofs.Rows.{length-rows, getD-rows, rows-words, words-append, words-length, words-add, words-le}
 use Rattle.layout.proofs.Indexes.{Indexed, directoryHalf-length}
-use Rattle.ask.specs.declared.plan.Stretch.{Stretch}
-use Rattle.ask.specs.Plan.{firstSlot, stretch}
+use Rattle.plan.specs.declared.stretches.Stretch.{Stretch}
+use Rattle.plan.specs.Plan.{firstSlot, stretch}
+use Rattle.plan.proofs.Looked.{slotFrom, slotsFrom}
 use Rattle.ask.specs.Part.{stretchWords, There}
 use Rattle.ask.specs.Cut.{InTurn, afterIn, SlotsThere}
-use Rattle.ask.proofs.Looked.{slotFrom, slotsFrom}
 
 -- ---- a half of the directory, from the word `base` on, with its arena
 

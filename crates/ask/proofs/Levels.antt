@@ -1,7 +1,7 @@
 -- On an index the stretches of a level are there, and their matches are those that the walk lists; and the walk level by level.
 use mathlib.Core.Path.{_≡_, refl, sym, ap, ap₂, subst, _∙_, fun-ext}
 use mathlib.Core.Bool.{Bool, true, false, _&&_}
-use mathlib.Core.List.{List, [], _++_}
+use mathlib.Core.List.{List, [], _++_, List·Memᴰ as Mem}
 use Prim.Native.Nat.{ℕ, _+_, _-_, _*_, _^_, _≤_, _<_}
 use native.Mathlib.Numerals.{add-one}
 use native.Mathlib.Omega.{arith}
@@ -16,18 +16,24 @@ use Rattle.trip.specs.declared.Trip.{Trip}
 use Rattle.layout.specs.declared.Half.{Half}
 use Rattle.layout.specs.declared.Half.the-variants.{Originals, Replicas}
 use Rattle.layout.specs.Words.{partitionNumber, halfLength, Index}
-use Rattle.layout.specs.Refusals.{tableOf}
+use Rattle.layout.specs.Refusals.{tableOf, isIndex}
 use Rattle.layout.proofs.RowOrder.{Distinct}
 use Rattle.layout.proofs.Indexes.{Indexed, of-isIndex}
-use Rattle.ask.specs.declared.plan.Plan.{Plan}
-use Rattle.ask.specs.Plan.{Ranged, originalSlots, replicaSlots, firstSlot, slotAt, sureFirst, sureLast, stretch, arranged, stretchesAt}
-use Rattle.ask.specs.Part.{keepUnless, stretchMatches, There}
+use Rattle.plan.specs.declared.range.Plan.{Plan}
+use Rattle.plan.specs.Plan.{Ranged, originalSlots, replicaSlots, firstSlot, slotAt, sureFirst, sureLast, keepUnless, stretch, arranged, stretchesAt}
+use Rattle.plan.proofs.Looked.{slotsFrom, width, lookedAt, levelWalk, walk}
+use Rattle.plan.proofs.Ranges.{few-slots, cells-ordered, high-in}
+use Rattle.plan.proofs.Sure.{three-pieces, first-sure, between-sure, last-sure, one-sure, replicas-sure}
+use Rattle.ask.specs.Part.{stretchMatches, There}
 use Rattle.ask.specs.Cut.{SlotsThere}
 use Rattle.ask.specs.Levels.{AllThere, levelMatches, LevelsThere, levelsMatches}
-use Rattle.ask.proofs.Looked.{slotsFrom, width, lookedAt, levelWalk, walk, Ready}
-use Rattle.ask.proofs.Ranges.{few-slots, cells-ordered, high-in}
-use Rattle.ask.proofs.Sure.{three-pieces, first-sure, between-sure, last-sure, one-sure, replicas-sure}
 use Rattle.ask.proofs.Laid.{Laid, originals-laid, replicas-laid, stretch-is, stretch-there, partition-there}
+
+-- what the walk asks: an index, a plan on its ruler, and that a quick plan is right to be so
+pub record Ready (s : Scale) (t : Trip → Bool) (p : Plan) (x : Index) : Type 0 where
+  pub indexed : isIndex s x ≡ true
+  pub ranged : Ranged (s .m) p
+  pub sure : p .quick ≡ true → (u : Trip) → Mem u (tableOf s x) → p .low .1 < s .cell (u .end) → s .cell (u .start) < p .high .1 → T (t u)
 
 none-kept : (sure : Bool) (t : Trip → Bool) → keepUnless sure t [] ≡ []
 unfolding keepUnless keep

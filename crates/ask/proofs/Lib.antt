@@ -1,14 +1,8 @@
-pub mod Inside
-pub mod Ranges
 pub mod Written
 pub mod Turns
-pub mod Looked
-pub mod Walked
-pub mod Sure
 pub mod Searched
 pub mod TwoSlots
 pub mod Laid
 pub mod Levels
-pub mod Suited
 pub mod Questions
 pub mod Endings

@@ -30,18 +30,18 @@ use Rattle.layout.proofs.Tables.{Table}
 use Rattle.layout.proofs.Indexes.{Indexed, of-isIndex, back-length}
 use Rattle.layout.proofs.Edits.{idOf, ids-differ, ids-in, matches-distinct}
 use Rattle.store.specs.Entries.{ids}
-use Rattle.ask.specs.declared.bounds.Bounds.{Bounds}
-use Rattle.ask.specs.declared.plan.Plan.{Plan}
-use Rattle.ask.specs.Bounds.{far, inside, boundsOf}
-use Rattle.ask.specs.Plan.{planFor}
+use Rattle.plan.specs.declared.bounds.Bounds.{Bounds}
+use Rattle.plan.specs.declared.range.Plan.{Plan}
+use Rattle.plan.specs.Bounds.{far, inside, boundsOf}
+use Rattle.plan.specs.Plan.{planFor}
+use Rattle.plan.proofs.Inside.{inside-related}
+use Rattle.plan.proofs.Looked.{walk}
+use Rattle.plan.proofs.Walked.{Suits, walk-in, in-walk, walk-distinct}
+use Rattle.plan.proofs.Suited.{planAt, plan-for, in-range, suits-plan, quick-right}
 use Rattle.ask.specs.Levels.{LevelsThere, levelsMatches}
 use Rattle.ask.specs.Chain.{OnRuler}
-use Rattle.ask.proofs.Inside.{inside-related}
-use Rattle.ask.proofs.Looked.{Ready, walk}
-use Rattle.ask.proofs.Walked.{Suits, walk-in, in-walk, walk-distinct}
 use Rattle.ask.proofs.Laid.{Laid, originals-laid}
-use Rattle.ask.proofs.Levels.{levels-there, levels-match}
-use Rattle.ask.proofs.Suited.{planAt, plan-for, in-range, suits-plan, quick-right}
+use Rattle.ask.proofs.Levels.{Ready, levels-there, levels-match}
 use Rattle.ask.proofs.Written.{ids-length}
 
 -- a time of a ruler is not far

@@ -19,8 +19,8 @@ use Rattle.layout.specs.Stored.{subdivisionOf}
 use Rattle.layout.specs.Words.{entryWords, tripAt, rows, byStart, byEnd, order}
 use Rattle.layout.proofs.Rows.{length-rows, getD-rows, tripAt-drop, whole}
 use Rattle.layout.proofs.RowParts.{rows-split, rows-take, front-length}
-use Rattle.ask.specs.declared.bounds.Bounds.{Bounds}
-use Rattle.ask.specs.Bounds.{has, inside}
+use Rattle.plan.specs.declared.bounds.Bounds.{Bounds}
+use Rattle.plan.specs.Bounds.{has, inside}
 use Rattle.ask.specs.Cut.{timeOf, spanOf, earlierThan, InTurn, Rises, Parted}
 
 -- ---- a slot in its order never falls in time

@@ -12,8 +12,9 @@ use Rattle.trip.specs.declared.Trip.{Trip}
 use Rattle.layout.specs.declared.Half.{Half}
 use Rattle.layout.specs.Words.{entryWords, rows}
 use Rattle.layout.proofs.Rows.{rows-append, words-rows}
-use Rattle.ask.specs.declared.plan.Stretch.{Stretch}
-use Rattle.ask.specs.Part.{keepUnless, stretchWords, stretchMatches, There, ListedFrom}
+use Rattle.plan.specs.declared.stretches.Stretch.{Stretch}
+use Rattle.plan.specs.Plan.{keepUnless}
+use Rattle.ask.specs.Part.{stretchWords, stretchMatches, There, ListedFrom}
 use Rattle.ask.specs.Cut.{inSlot, aftSlot, afterIn, SlotsThere}
 use Rattle.ask.proofs.Written.{from-room, from-more}
 

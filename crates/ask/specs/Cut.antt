@@ -12,10 +12,10 @@ use Rattle.trip.specs.declared.Trip.{Trip}
 use Rattle.layout.specs.declared.Half.{Half}
 use Rattle.layout.specs.Stored.{subdivisionOf}
 use Rattle.layout.specs.Words.{entryWords, tripAt, order}
-use Rattle.ask.specs.declared.bounds.Span.{Span}
-use Rattle.ask.specs.declared.bounds.Bounds.{Bounds}
-use Rattle.ask.specs.declared.plan.Stretch.{Stretch}
-use Rattle.ask.specs.Plan.{stretch}
+use Rattle.plan.specs.declared.bounds.Span.{Span}
+use Rattle.plan.specs.declared.bounds.Bounds.{Bounds}
+use Rattle.plan.specs.declared.stretches.Stretch.{Stretch}
+use Rattle.plan.specs.Plan.{stretch}
 use Rattle.ask.specs.Part.{stretchWords, There}
 
 -- the time by which a slot is in order, a trip's end or its start; and its bounds

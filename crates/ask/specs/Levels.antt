@@ -5,9 +5,9 @@ use Prim.Native.Nat.{ℕ, _-_, _≤_}
 use Rattle.lists.specs.Lists.{joined}
 use Rattle.trip.specs.declared.Trip.{Trip}
 use Rattle.layout.specs.declared.Half.the-variants.{Originals, Replicas}
-use Rattle.ask.specs.declared.plan.Plan.{Plan}
-use Rattle.ask.specs.declared.plan.Stretches.{Stretches}
-use Rattle.ask.specs.Plan.{Ranged, stretchesAt}
+use Rattle.plan.specs.declared.range.Plan.{Plan}
+use Rattle.plan.specs.declared.stretches.Stretches.{Stretches}
+use Rattle.plan.specs.Plan.{Ranged, stretchesAt}
 use Rattle.ask.specs.Part.{stretchMatches, There}
 use Rattle.ask.specs.Cut.{SlotsThere}
 

@@ -1,5 +1,3 @@
-pub mod Bounds
-pub mod Plan
 pub mod Part
 pub mod Cut
 pub mod Levels

@@ -1,18 +1,15 @@
 -- The entries between two words of a directory, which of them match, and their ids written to the front of a list.
 use mathlib.Core.Path.{_≡_}
-use mathlib.Core.Bool.{Bool, cond}
+use mathlib.Core.Bool.{Bool}
 use mathlib.Core.List.{List, _++_}
 use Prim.Native.Nat.{ℕ, _+_, _-_, _*_, _≤_, _<_}
 use lib.ListN.{length, getD, take, drop}
-use Rattle.lists.specs.Lists.{keep, over}
+use Rattle.lists.specs.Lists.{over}
 use Rattle.trip.specs.declared.Trip.{Trip}
 use Rattle.layout.specs.Words.{entryWords, rows}
 use Rattle.store.specs.Entries.{ids}
-use Rattle.ask.specs.declared.plan.Stretch.{Stretch}
-
--- those of a list that pass the test; the whole list, untested, where it is known that all pass
-unfoldable pub keepUnless : (sure : Bool) → (Trip → Bool) → List Trip → List Trip
-keepUnless sure t l = cond sure l (keep t l)
+use Rattle.plan.specs.declared.stretches.Stretch.{Stretch}
+use Rattle.plan.specs.Plan.{keepUnless}
 
 -- the ids of these trips stand in the first words of a list, its later words stay, and r is their number
 pub record Listed (ts : List Trip) (old new : List ℕ) (r : ℕ) : Type 0 where

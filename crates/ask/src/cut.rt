@@ -1,15 +1,15 @@
 // A slot in its order, cut by halving to the entries whose times can match, so that only these are tested.
-use crate::bounds::Bounds;
-use crate::bounds::Span;
 use layout::ENTRY_WORDS;
 use layout::Half;
+use plan::bounds::Bounds;
+use plan::bounds::Span;
 use ruler::Time;
 use store::entry::trip_at;
 use trip::Trip;
 ghost use mathlib.Core.Path.{_≡_};
 ghost use Rattle.lists.specs.Lists.{keep};
 ghost use Rattle.layout.specs.Words.{rows};
-ghost use Rattle.ask.specs.Bounds.{inside};
+ghost use Rattle.plan.specs.Bounds.{inside};
 ghost use Rattle.ask.specs.Cut.{timeOf, spanOf, earlierThan, InTurn, Rises, Parted};
 
 // The time by which a slot is in order: a trip's end, or its start.

@@ -1,19 +1,17 @@
 // Questions on the words of an index: the ids of the trips to which a window stands in a named relationship.
-pub mod bounds;
 pub mod cut;
 pub mod part;
 pub mod partition;
-pub mod plan;
 pub mod stretch;
 pub mod walk;
 
-use bounds::Bounds;
-use bounds::bounds_of;
 use layout::Outcome;
 use layout::Refusal;
-use plan::Plan;
-use plan::half_length;
-use plan::plan_for;
+use plan::bounds::Bounds;
+use plan::bounds::bounds_of;
+use plan::range::Plan;
+use plan::range::plan_for;
+use plan::stretches::half_length;
 use ruler::Judged;
 use ruler::Numbers;
 use ruler::Ruler;
@@ -32,7 +30,7 @@ ghost use Rattle.layout.specs.Words.{partitions};
 ghost use Rattle.layout.specs.Answers.{answer};
 ghost use Rattle.layout.specs.Refusals.{tableOf, isIndex, roomTest};
 ghost use Rattle.layout.specs.Calls.{index, asked, askOf};
-ghost use Rattle.ask.specs.Bounds.{inside};
+ghost use Rattle.plan.specs.Bounds.{inside};
 ghost use Rattle.ask.specs.Levels.{LevelsThere, levelsMatches};
 ghost use Rattle.ask.specs.Chain.{OnRuler, listedOf, answerOf};
 

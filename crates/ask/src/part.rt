@@ -1,6 +1,6 @@
 // The entries of one part of an arena: how many match, and their ids.
-use crate::bounds::Bounds;
 use layout::ENTRY_WORDS;
+use plan::bounds::Bounds;
 use store::entry::copy_ids;
 use store::entry::trip_at;
 ghost use mathlib.Core.Path.{_≡_};
@@ -8,8 +8,9 @@ ghost use Prim.Native.Nat.{_≤_, _%_};
 ghost use lib.ListN.{length};
 ghost use Rattle.lists.specs.Lists.{keep};
 ghost use Rattle.layout.specs.Words.{entryWords, rows};
-ghost use Rattle.ask.specs.Bounds.{inside};
-ghost use Rattle.ask.specs.Part.{keepUnless, Listed};
+ghost use Rattle.plan.specs.Bounds.{inside};
+ghost use Rattle.plan.specs.Plan.{keepUnless};
+ghost use Rattle.ask.specs.Part.{Listed};
 
 // How many entries of a part match.
 pub fn count_tested(bounds: Bounds, part: &[u32]) -> usize

@@ -1,20 +1,20 @@
 // The entries of one partition, slot by slot: each is in its order, so that it is cut before what is left of it is tested.
-use crate::bounds::Bounds;
 use crate::cut::cut;
 use crate::part::count_tested;
 use crate::part::list_tested;
-use crate::plan::Stretch;
 use crate::stretch::count_stretch;
 use crate::stretch::list_stretch;
 use layout::ENTRY_WORDS;
 use layout::Half;
+use plan::bounds::Bounds;
+use plan::stretches::Stretch;
 ghost use mathlib.Core.Path.{_≡_};
 ghost use Prim.Native.Nat.{_≤_, _+_};
 ghost use lib.ListN.{length};
 ghost use Rattle.lists.specs.Lists.{keep};
 ghost use Rattle.ruler.specs.Ruler.{mostTrips};
 ghost use Rattle.layout.specs.Words.{rows};
-ghost use Rattle.ask.specs.Bounds.{inside};
+ghost use Rattle.plan.specs.Bounds.{inside};
 ghost use Rattle.ask.specs.Part.{ListedFrom, There, stretchWords, stretchMatches};
 ghost use Rattle.ask.specs.Cut.{InTurn, inSlot, aftSlot, SlotsThere};
 
@@ -23,28 +23,16 @@ fn in_slot(stretch: Stretch) -> Stretch
     ensures { λ r. ⌜ r ≡ inSlot stretch ⌝ }
 {
     if stretch.from < stretch.to {
-        return Stretch {
-            from: stretch.from,
-            to: stretch.from + 1,
-            sure: stretch.sure,
-        };
+        return Stretch::new(stretch.from, stretch.from + 1, stretch.sure);
     }
-    Stretch {
-        from: stretch.from,
-        to: stretch.from,
-        sure: stretch.sure,
-    }
+    Stretch::new(stretch.from, stretch.from, stretch.sure)
 }
 
 fn aft_slot(stretch: Stretch) -> Stretch
     ensures { λ r. ⌜ r ≡ aftSlot stretch ⌝ }
 {
     if stretch.from < stretch.to {
-        return Stretch {
-            from: stretch.from + 1,
-            to: stretch.to,
-            sure: stretch.sure,
-        };
+        return Stretch::new(stretch.from + 1, stretch.to, stretch.sure);
     }
     stretch
 }

@@ -1,13 +1,13 @@
 // The entries between two words of a directory: how many match, and their ids.
-use crate::bounds::Bounds;
 use crate::part::count_part;
 use crate::part::list_part;
-use crate::plan::Stretch;
 use layout::ENTRY_WORDS;
+use plan::bounds::Bounds;
+use plan::stretches::Stretch;
 ghost use mathlib.Core.Path.{_≡_};
 ghost use Prim.Native.Nat.{_≤_, _+_};
 ghost use lib.ListN.{length};
-ghost use Rattle.ask.specs.Bounds.{inside};
+ghost use Rattle.plan.specs.Bounds.{inside};
 ghost use Rattle.ask.specs.Part.{ListedFrom, There, stretchMatches};
 
 // How many entries of a stretch match.

@@ -1,18 +1,18 @@
 // The walk over the levels of an index, which counts the matches of a plan or lists their ids.
-use crate::bounds::Bounds;
 use crate::partition::count_partition;
 use crate::partition::list_partition;
-use crate::plan::Plan;
-use crate::plan::Stretches;
-use crate::plan::stretches_at;
 use crate::stretch::count_stretch;
 use crate::stretch::list_stretch;
 use layout::Half;
+use plan::bounds::Bounds;
+use plan::range::Plan;
+use plan::stretches::Stretches;
+use plan::stretches::stretches_at;
 ghost use mathlib.Core.Path.{_≡_};
 ghost use Prim.Native.Nat.{_≤_, _+_};
 ghost use lib.ListN.{length};
 ghost use Rattle.ruler.specs.Ruler.{mostTrips};
-ghost use Rattle.ask.specs.Bounds.{inside};
+ghost use Rattle.plan.specs.Bounds.{inside};
 ghost use Rattle.ask.specs.Part.{Listed};
 ghost use Rattle.ask.specs.Levels.{AllThere, LevelsThere, levelMatches, levelsMatches};
 

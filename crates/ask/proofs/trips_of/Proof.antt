@@ -3,9 +3,9 @@ use mathlib.Core.Path.{_≡_, ap}
 use Prim.Native.Nat.{ℕ, _-_, _*_}
 use lib.ListN.{getD}
 use Rattle.layout.specs.Words.{partitions, halfLength}
-use Rattle.ask.proofs.Ranges.{half-small}
 use native.Mathlib.Omega.{arith}
 use borrow.Author.Needs.{needs}
+use Rattle.plan.proofs.Ranges.{half-small}
 use Rattle.ask.proofs.trips_of.Statement.{statement}
 use Rattle.ask.proofs.trips_of.Tie as tie
 

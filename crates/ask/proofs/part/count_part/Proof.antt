@@ -2,8 +2,8 @@
 use mathlib.Core.Path.{sym}
 use Rattle.layout.specs.Words.{entryWords}
 use Rattle.layout.proofs.Rows.{length-rows}
-use Rattle.ask.specs.Part.{keepUnless}
 use borrow.Author.Needs.{needs}
+use Rattle.plan.specs.Plan.{keepUnless}
 use Rattle.ask.proofs.part.count_part.Statement.{statement}
 use Rattle.ask.proofs.part.count_part.Tie as tie
 

@@ -6,7 +6,7 @@ use Prim.Native.Nat.{_-_, _≤_}
 use lib.ListN.{length}
 use Rattle.lists.proofs.Kept.{kept-few}
 use Rattle.layout.specs.Words.{entryWords, tripAt}
-use Rattle.ask.specs.Bounds.{inside}
+use Rattle.plan.specs.Bounds.{inside}
 use Rattle.ask.proofs.Turns.{found, found-none, found-all, count-hit, count-miss}
 use native.Mathlib.Omega.{arith}
 use borrow.Author.Needs.{needs}

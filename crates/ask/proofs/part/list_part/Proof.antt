@@ -1,9 +1,9 @@
 -- All of the part, by the id copier, or those that pass.
 use mathlib.Core.Path.{_∙_, sym}
 use Rattle.layout.proofs.Rows.{length-rows}
-use Rattle.ask.specs.Part.{keepUnless}
 use native.Mathlib.Omega.{arith}
 use borrow.Author.Needs.{needs}
+use Rattle.plan.specs.Plan.{keepUnless}
 use Rattle.ask.proofs.part.list_part.Statement.{statement}
 use Rattle.ask.proofs.part.list_part.Tie as tie
 

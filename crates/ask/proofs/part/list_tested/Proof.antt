@@ -6,7 +6,7 @@ use Prim.Native.Nat.{_-_, _≤_}
 use lib.ListN.{length, length-set}
 use Rattle.trip.specs.declared.Trip.{Trip}
 use Rattle.layout.specs.Words.{entryWords, tripAt}
-use Rattle.ask.specs.Bounds.{inside}
+use Rattle.plan.specs.Bounds.{inside}
 use Rattle.ask.specs.Part.{Listed}
 use Rattle.ask.proofs.Written.{listed-none}
 use Rattle.ask.proofs.Turns.{found, found-none, found-all, hit-room, hit-listed, miss-listed}

@@ -5,14 +5,17 @@ use borrow.Author.Needs.{needs}
 use Rattle.ask.proofs.partition.aft_slot.Statement.{statement}
 use Rattle.ask.proofs.partition.aft_slot.Tie as tie
 
-add-t3 : tie.Need-add-t3
-add-t3 c = search needs
+add-new : tie.Need-add-new
+add-new c = search needs
+
+new-requires : tie.Need-new-requires
+new-requires c κs = search needs
 
 returns : tie.Need-returns
-returns c = let g = c .before .before .before .args in rw (lt-ltb (g .stretch .from) (g .stretch .to) (c .before .if1 .taken)) refl
+returns c = let g = c .before .before .before .before .args in rw (lt-ltb (g .stretch .from) (g .stretch .to) (c .before .before .if1 .taken), c .new .ensures)
 
 returns-2 : tie.Need-returns-2
 returns-2 c = let g = c .before .before .args in rw (le-ltb (g .stretch .from) (g .stretch .to) (c .if1 .left)) refl
 
 pub aft-slot-spec : {M : Type 1} → statement M
-aft-slot-spec = tie.close (tie.spec add-t3 returns returns-2)
+aft-slot-spec = tie.close (tie.spec add-new new-requires returns returns-2)

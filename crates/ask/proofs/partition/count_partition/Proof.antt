@@ -1,5 +1,5 @@
 -- All of the stretch untested, or the counts of its two slots together.
-use Rattle.ask.specs.Bounds.{inside}
+use Rattle.plan.specs.Bounds.{inside}
 use Rattle.ask.proofs.TwoSlots.{two-counts}
 use native.Mathlib.Omega.{arith}
 use borrow.Author.Needs.{needs}

@@ -1,5 +1,5 @@
 -- All of the stretch untested, or its two slots, each into the rest that those before it left.
-use Rattle.ask.specs.Bounds.{inside}
+use Rattle.plan.specs.Bounds.{inside}
 use Rattle.ask.proofs.TwoSlots.{in-room, aft-room, both-listed}
 use borrow.Author.Needs.{needs}
 use Rattle.ask.proofs.partition.list_partition.Statement.{statement}

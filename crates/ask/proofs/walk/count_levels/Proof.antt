@@ -2,8 +2,8 @@
 use mathlib.Core.Path.{_≡_, sym, ap, _∙_}
 use Prim.Native.Nat.{ℕ, _+_, _-_, _≤_}
 use lib.ListN.{length, length-append}
-use Rattle.ask.specs.Bounds.{inside}
-use Rattle.ask.specs.Plan.{stretchesAt}
+use Rattle.plan.specs.Bounds.{inside}
+use Rattle.plan.specs.Plan.{stretchesAt}
 use Rattle.ask.specs.Levels.{levelMatches, levelsMatches}
 use Rattle.ask.proofs.Levels.{levels-none, levels-more, next-room}
 use native.Mathlib.Omega.{arith}

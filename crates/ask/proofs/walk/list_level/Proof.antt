@@ -2,8 +2,8 @@
 use mathlib.Core.List.{List, _++_}
 use Prim.Native.Nat.{ℕ}
 use Rattle.trip.specs.declared.Trip.{Trip}
-use Rattle.ask.specs.declared.plan.Stretch.{Stretch}
-use Rattle.ask.specs.Bounds.{inside}
+use Rattle.plan.specs.declared.stretches.Stretch.{Stretch}
+use Rattle.plan.specs.Bounds.{inside}
 use Rattle.ask.specs.Part.{stretchMatches}
 use Rattle.ask.specs.Levels.{levelMatches}
 use Rattle.ask.proofs.Written.{listed-none, listed-more, front-room, rest-room}

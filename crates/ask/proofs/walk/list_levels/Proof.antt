@@ -2,8 +2,8 @@
 use mathlib.Core.Path.{_≡_, refl, ap, _∙_}
 use Prim.Native.Nat.{ℕ, _+_, _-_, _≤_}
 use lib.ListN.{length}
-use Rattle.ask.specs.Bounds.{inside}
-use Rattle.ask.specs.Plan.{stretchesAt}
+use Rattle.plan.specs.Bounds.{inside}
+use Rattle.plan.specs.Plan.{stretchesAt}
 use Rattle.ask.specs.Part.{Listed}
 use Rattle.ask.specs.Levels.{levelMatches, levelsMatches}
 use Rattle.ask.proofs.Written.{lent-room, lent-back, listed-none, listed-length, rest-room, listed-more}

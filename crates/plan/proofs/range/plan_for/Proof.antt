@@ -1,0 +1,53 @@
+-- The window's cells and the ruler's own go to the table.
+use lib.Pow.{pow-pos}
+use Rattle.lists.proofs.Tests.{to-T}
+use Rattle.ruler.specs.Ruler.{scaleOf}
+use Rattle.ruler.proofs.Fair.{bounds}
+use Rattle.plan.specs.Plan.{planFor}
+use native.Mathlib.Omega.{arith}
+use borrow.Author.Needs.{needs}
+use Rattle.plan.proofs.range.plan_for.Statement.{statement}
+use Rattle.plan.proofs.range.plan_for.Tie as tie
+
+bottom-requires : tie.Need-bottom-requires
+bottom-requires c κs = search needs
+
+cell-requires : tie.Need-cell-requires
+cell-requires c κs = search needs
+
+cell-requires-2 : tie.Need-cell-requires-2
+cell-requires-2 c κs = search needs
+
+at-requires : tie.Need-at-requires
+at-requires c κs = search needs
+
+power-requires : tie.Need-power-requires
+unfolding scaleOf
+power-requires c κs = let s = c .before .before .before .before in omega (arith, c .before .before .before .bottom .ensures, bounds (s .args .ruler .numbers) (to-T (s .pre)) .deep)
+
+sub-at : tie.Need-sub-at
+sub-at c = omega (arith, c .power .ensures, pow-pos (c .before .before .before .before .bottom .result))
+
+at-requires-2 : tie.Need-at-requires-2
+at-requires-2 c κs = search needs
+
+plan-of-requires : tie.Need-plan-of-requires
+plan-of-requires c κs = search needs
+
+returns : tie.Need-returns
+unfolding planFor
+returns c = rw (c .plan-of .ensures, c .before .at2 .ensures, c .before .before .power .ensures, c .before .before .before .at .ensures, c .before .before .before .before .cell2 .ensures, c .before .before .before .before .before .cell .ensures, c .before .before .before .before .before .before .bottom .ensures)
+
+pub plan-for-spec : {M : Type 1} → statement M
+plan-for-spec =
+    tie.close
+    (tie.spec
+    bottom-requires
+    cell-requires
+    cell-requires-2
+    at-requires
+    power-requires
+    sub-at
+    at-requires-2
+    plan-of-requires
+    returns)
