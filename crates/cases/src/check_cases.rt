@@ -1,5 +1,6 @@
 // Check: an index, and the same words damaged in many ways. What is still accepted must be the index of another table.
 use crate::say;
+use layout::ENTRY_WORDS;
 ghost use mathlib.Core.Path.{_≡_};
 ghost use Prim.Native.Nat.{_+_, _<_, _≤_};
 ghost use lib.ListN.{length};
@@ -81,7 +82,7 @@ fn is_an_index(words: &[u32]) -> bool
     if MOST < total {
         return false;
     }
-    let end = DIRECTORY + 3 * total;
+    let end = DIRECTORY + ENTRY_WORDS * total;
     is_of_table(
         &words[DIRECTORY..end],
         &words[0..DIRECTORY],
@@ -183,7 +184,7 @@ fn each_two_words(words: &mut [u32]) -> bool
 }
 
 fn exchange_entries(words: &mut [u32], a: usize, b: usize)
-    requires { ⌜ (a + 3 ≤ length (now words)) × (b + 3 ≤ length (now words)) ⌝ }
+    requires { do ⌜ (a + (← ⟦ENTRY_WORDS⟧) ≤ length (now words)) × (b + (← ⟦ENTRY_WORDS⟧) ≤ length (now words)) ⌝ }
 {
     exchange(words, a, b);
     exchange(words, a + 1, b + 1);
@@ -200,7 +201,7 @@ fn entries_apart(words: &mut [u32], apart: usize) -> bool
         exchange_entries(words, k - apart, k);
         right = right & judged(words);
         exchange_entries(words, k - apart, k);
-        k += 3;
+        k += ENTRY_WORDS;
     }
     right
 }
@@ -209,10 +210,10 @@ fn each_two_entries(words: &mut [u32]) -> bool
     requires { do ⌜ length (now words) ≡ (← ⟦WORDS⟧) ⌝ }
 {
     let mut right = true;
-    let mut apart: usize = 3;
+    let mut apart = ENTRY_WORDS;
     while apart < WORDS - DIRECTORY {
         right = right & entries_apart(words, apart);
-        apart += 3;
+        apart += ENTRY_WORDS;
     }
     right
 }
@@ -239,23 +240,23 @@ fn recount(words: &mut [u32], counts: usize, entry: u32, by: u32)
 
 // The entry at a place out: the later ones move down, and the room after them, which is 0, with them.
 fn move_down(words: &mut [u32], at: usize, end: usize)
-    requires { ⌜ (at + 3 ≤ end) × (end ≤ length (now words)) ⌝ }
+    requires { do ⌜ (at + (← ⟦ENTRY_WORDS⟧) ≤ end) × (end ≤ length (now words)) ⌝ }
 {
     let mut i = at;
-    while i < end - 3 {
-        words[i] = words[i + 3];
+    while i < end - ENTRY_WORDS {
+        words[i] = words[i + ENTRY_WORDS];
         i += 1;
     }
 }
 
 // The entry at a place twice: the later ones move up.
 fn move_up(words: &mut [u32], at: usize, end: usize)
-    requires { ⌜ (at + 3 ≤ end) × (end ≤ length (now words)) ⌝ }
+    requires { do ⌜ (at + (← ⟦ENTRY_WORDS⟧) ≤ end) × (end ≤ length (now words)) ⌝ }
 {
     let mut i = end;
-    while at + 3 < i {
+    while at + ENTRY_WORDS < i {
         i -= 1;
-        words[i] = words[i - 3];
+        words[i] = words[i - ENTRY_WORDS];
     }
 }
 
@@ -264,7 +265,7 @@ fn drop_or_double(words: &mut [u32], counts: usize, arena: usize, entry: usize, 
     requires { do ⌜ (counts + (← ⟦COUNTS⟧) ≤ length (now words)) × (arena + (← ⟦ARENA⟧) ≤ length (now words)) ⌝ }
     requires { do ⌜ entry < (← ⟦MOST⟧) ⌝ }
 {
-    let at = arena + 3 * entry;
+    let at = arena + ENTRY_WORDS * entry;
     if double {
         recount(words, counts, entry as u32, 1);
         move_up(words, at, arena + ARENA);

@@ -11,6 +11,7 @@ use crate::edit_table::rows_after;
 use crate::edit_table::with_row;
 use crate::edit_table::without_row;
 use crate::say;
+use layout::ENTRY_WORDS;
 ghost use mathlib.Core.Path.{_≡_};
 ghost use Prim.Native.Nat.{_*_, _<_, _≤_};
 ghost use lib.ListN.{length};
@@ -35,7 +36,7 @@ fn add_step(
     originals: &mut [u32],
     replicas: &mut [u32],
 ) -> Stood
-    requires { do ⌜ (length (now table) ≡ 3 * (← ⟦ROOM⟧)) × (rows < (← ⟦ROOM⟧)) ⌝ }
+    requires { do ⌜ (length (now table) ≡ (← ⟦ENTRY_WORDS⟧) * (← ⟦ROOM⟧)) × (rows < (← ⟦ROOM⟧)) ⌝ }
     ensures { λ r. do ⌜ r .rows ≤ (← ⟦ROOM⟧ .entry) ⌝ }
 {
     let number = with_row(table, rows, id, start, end);
@@ -66,7 +67,7 @@ fn remove_step(
     originals: &mut [u32],
     replicas: &mut [u32],
 ) -> Stood
-    requires { do ⌜ (length (now table) ≡ 3 * (← ⟦ROOM⟧)) × (rows < (← ⟦ROOM⟧)) ⌝ }
+    requires { do ⌜ (length (now table) ≡ (← ⟦ENTRY_WORDS⟧) * (← ⟦ROOM⟧)) × (rows < (← ⟦ROOM⟧)) ⌝ }
     ensures { λ r. do ⌜ r .rows ≤ (← ⟦ROOM⟧ .entry) ⌝ }
 {
     let after = without_row(table, rows, id);
@@ -88,7 +89,7 @@ fn one_step(
     originals: &mut [u32],
     replicas: &mut [u32],
 ) -> Stood
-    requires { do ⌜ (length (now table) ≡ 3 * (← ⟦ROOM⟧)) × (rows < (← ⟦ROOM⟧)) ⌝ }
+    requires { do ⌜ (length (now table) ≡ (← ⟦ENTRY_WORDS⟧) * (← ⟦ROOM⟧)) × (rows < (← ⟦ROOM⟧)) ⌝ }
     ensures { λ r. do ⌜ r .rows ≤ (← ⟦ROOM⟧ .entry) ⌝ }
 {
     if s.adds {
@@ -115,7 +116,7 @@ fn run(
     originals: &mut [u32],
     replicas: &mut [u32],
 ) -> bool
-    requires { do ⌜ length (now table) ≡ 3 * (← ⟦ROOM⟧) ⌝ }
+    requires { do ⌜ length (now table) ≡ (← ⟦ENTRY_WORDS⟧) * (← ⟦ROOM⟧) ⌝ }
 {
     let mut right = true;
     let mut rows: usize = 0;
@@ -183,7 +184,7 @@ fn chosen_step(
     originals: &mut [u32],
     replicas: &mut [u32],
 ) -> Stood
-    requires { do ⌜ (x < 65537) × (length (now table) ≡ 3 * (← ⟦ROOM⟧)) × (rows < (← ⟦ROOM⟧)) ⌝ }
+    requires { do ⌜ (x < 65537) × (length (now table) ≡ (← ⟦ENTRY_WORDS⟧) * (← ⟦ROOM⟧)) × (rows < (← ⟦ROOM⟧)) ⌝ }
     ensures { λ r. do ⌜ r .rows ≤ (← ⟦ROOM⟧ .entry) ⌝ }
 {
     let adds = x / 16 % 2;
@@ -222,7 +223,7 @@ fn chosen_steps(
     originals: &mut [u32],
     replicas: &mut [u32],
 ) -> bool
-    requires { do ⌜ length (now table) ≡ 3 * (← ⟦ROOM⟧) ⌝ }
+    requires { do ⌜ length (now table) ≡ (← ⟦ENTRY_WORDS⟧) * (← ⟦ROOM⟧) ⌝ }
 {
     let mut right = true;
     let mut answers: u32 = 0;

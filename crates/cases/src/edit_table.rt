@@ -1,5 +1,6 @@
 // The table beside an index that is edited: its rows change as the trips do, and the index must be that of a build of them.
 use crate::say;
+use layout::ENTRY_WORDS;
 use ruler::Numbers;
 use trip::Trip;
 ghost use Prim.Native.Nat.{_*_, _+_, _<_, _≤_};
@@ -14,12 +15,12 @@ pub fn numbers() -> Numbers {
 
 // The row with this id, or the number of rows.
 pub fn row_of(table: &[u32], rows: usize, id: u32) -> usize
-    requires { ⌜ 3 * rows ≤ length (now table) ⌝ }
+    requires { do ⌜ (← ⟦ENTRY_WORDS⟧) * rows ≤ length (now table) ⌝ }
     ensures { λ r. ⌜ r ≤ rows ⌝ }
 {
     let mut i: usize = 0;
     while i < rows {
-        if table[3 * i] == id {
+        if table[ENTRY_WORDS * i] == id {
             return i;
         }
         i += 1;
@@ -27,46 +28,21 @@ pub fn row_of(table: &[u32], rows: usize, id: u32) -> usize
     rows
 }
 
-pub fn put_row(table: &mut [u32], row: usize, id: u32, start: u32, end: u32)
-    requires { ⌜ 3 * row + 3 ≤ length (now table) ⌝ }
-{
-    let at = 3 * row;
-    table[at] = id;
-    table[at + 1] = start;
-    table[at + 2] = end;
-}
-
 // The last row takes the place of the row with this id. How many rows there are then.
 pub fn without_row(table: &mut [u32], rows: usize, id: u32) -> usize
-    requires { ⌜ 3 * rows ≤ length (now table) ⌝ }
+    requires { do ⌜ (← ⟦ENTRY_WORDS⟧) * rows ≤ length (now table) ⌝ }
     ensures { λ r. ⌜ r ≤ rows ⌝ }
 {
     let row = row_of(table, rows, id);
     if row < rows {
-        let last = 3 * (rows - 1);
+        let last = ENTRY_WORDS * (rows - 1);
         let other = table[last];
         let start = table[last + 1];
         let end = table[last + 2];
-        put_row(table, row, other, start, end);
+        say::put_row(table, row, other, start, end);
         return rows - 1;
     }
     rows
-}
-
-// Whether a build of the table, into the lists of the second index, gives the words of the first.
-pub fn gives(
-    ruler: Numbers,
-    table: &[u32],
-    directory: &[u32],
-    originals: &[u32],
-    replicas: &[u32],
-    d: &mut [u32],
-    o: &mut [u32],
-    r: &mut [u32],
-) -> bool {
-    let outcome = build::build(ruler, table, d, o, r);
-    let same = say::same(d, directory) & say::same(o, originals) & say::same(r, replicas);
-    say::is(outcome, 0, 0) & same
 }
 
 pub fn as_built(
@@ -76,13 +52,13 @@ pub fn as_built(
     originals: &[u32],
     replicas: &[u32],
 ) -> bool
-    requires { ⌜ 3 * rows ≤ length (now table) ⌝ }
+    requires { do ⌜ (← ⟦ENTRY_WORDS⟧) * rows ≤ length (now table) ⌝ }
 {
     let mut d = [7u32; 126];
     let mut o = [7u32; 16];
     let mut r = [7u32; 25];
-    let end = 3 * rows;
-    gives(
+    let end = ENTRY_WORDS * rows;
+    say::gives(
         numbers(),
         &table[0..end],
         directory,
@@ -96,12 +72,12 @@ pub fn as_built(
 
 // What a build of these rows is answered. An addition of the last of them must be answered the same.
 pub fn build_number(table: &[u32], rows: usize) -> u32
-    requires { ⌜ 3 * rows ≤ length (now table) ⌝ }
+    requires { do ⌜ (← ⟦ENTRY_WORDS⟧) * rows ≤ length (now table) ⌝ }
 {
     let mut d = [7u32; 126];
     let mut o = [7u32; 16];
     let mut r = [7u32; 25];
-    let end = 3 * rows;
+    let end = ENTRY_WORDS * rows;
     let outcome = build::build(numbers(), &table[0..end], &mut d, &mut o, &mut r);
     layout::number_of(outcome)
 }
@@ -119,9 +95,9 @@ pub fn rows_after(rows: usize, number: u32) -> usize
 
 // The table with one row more after its rows; what its build is answered, and so an addition of that row.
 pub fn with_row(table: &mut [u32], rows: usize, id: u32, start: u32, end: u32) -> u32
-    requires { ⌜ 3 * rows + 3 ≤ length (now table) ⌝ }
+    requires { do ⌜ (← ⟦ENTRY_WORDS⟧) * (rows + 1) ≤ length (now table) ⌝ }
 {
-    put_row(table, rows, id, start, end);
+    say::put_row(table, rows, id, start, end);
     build_number(table, rows + 1)
 }
 

@@ -1,7 +1,5 @@
 // Edits of an index of 4,096 trips, the most that one may have.
 use crate::edit_table::added;
-use crate::edit_table::gives;
-use crate::edit_table::put_row;
 use crate::edit_table::removed;
 use crate::edit_table::without_row;
 use crate::say;
@@ -14,7 +12,7 @@ fn as_built_of_many(table: &[u32], directory: &[u32], originals: &[u32], replica
     let mut d = [7u32; 14];
     let mut o = [7u32; 12291];
     let mut r = [7u32; 3];
-    gives(
+    say::gives(
         say::ruler(1, 1),
         table,
         directory,
@@ -64,7 +62,7 @@ fn one_in(
 ) -> bool
     requires { ⌜ length (now table) ≡ 12288 ⌝ }
 {
-    put_row(table, 4095, 17, 0, 0);
+    say::put_row(table, 4095, 17, 0, 0);
     let t = say::trip(17, 0, 0);
     let accepted = added(say::ruler(1, 1), directory, originals, replicas, t, 0);
     accepted & as_built_of_many(table, directory, originals, replicas)
@@ -90,6 +88,17 @@ fn out_and_in(table: &mut [u32], directory: &mut [u32], originals: &mut [u32], r
     say::case(back, b"edits: and in again");
 }
 
+// The index of 4,096 trips, full, one trip out and in again, and full again.
+fn edits(table: &mut [u32], directory: &mut [u32], originals: &mut [u32], replicas: &mut [u32])
+    requires { ⌜ length (now table) ≡ 12288 ⌝ }
+{
+    let name = b"edits: one more than 4096 trips gives 2";
+    full(table, directory, originals, replicas, name);
+    out_and_in(table, directory, originals, replicas);
+    let name = b"edits: then one more gives 2 again";
+    full(table, directory, originals, replicas, name);
+}
+
 pub fn all() {
     let mut table = [0u32; 12288];
     say::fill_rows(&mut table, 0, 0);
@@ -103,23 +112,7 @@ pub fn all() {
         &mut originals,
         &mut replicas,
     );
-    say::case(
-        say::is(built, 0, 0),
-        b"edits: an index of 4096 trips is built",
-    );
-    full(
-        &table,
-        &mut directory,
-        &mut originals,
-        &mut replicas,
-        b"edits: one more than 4096 trips gives 2",
-    );
-    out_and_in(&mut table, &mut directory, &mut originals, &mut replicas);
-    full(
-        &table,
-        &mut directory,
-        &mut originals,
-        &mut replicas,
-        b"edits: then one more gives 2 again",
-    );
+    let name = b"edits: an index of 4096 trips is built";
+    say::case(say::is(built, 0, 0), name);
+    edits(&mut table, &mut directory, &mut originals, &mut replicas);
 }

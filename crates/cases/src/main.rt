@@ -8,12 +8,14 @@ mod edit_steps;
 mod edit_table;
 mod full_cases;
 mod say;
+mod scan_cases;
 mod view_cases;
 
 fn main() {
     build_cases::all();
     check_cases::all();
     ask_cases::all();
+    scan_cases::all();
     edit_cases::all();
     full_cases::all();
     view_cases::all();

@@ -2,8 +2,8 @@
 use Prim.Native.Nat.{_≤_, _-_}
 use native.Mathlib.Omega.{arith}
 use borrow.Author.Needs.{needs}
-use Rattle.cases.proofs.ask_cases.all_windows.Statement.{statement}
-use Rattle.cases.proofs.ask_cases.all_windows.Tie as tie
+use Rattle.cases.proofs.scan_cases.all_windows.Statement.{statement}
+use Rattle.cases.proofs.scan_cases.all_windows.Tie as tie
 
 abbrev Inv-loop : tie.InvT-loop
 Inv-loop numbers table d o r start₀ start = start ≤ 8

@@ -2,8 +2,8 @@
 use lib.ListN.{length-set}
 use native.Mathlib.Omega.{arith}
 use borrow.Author.Needs.{needs}
-use Rattle.cases.proofs.ask_cases.put.Statement.{statement}
-use Rattle.cases.proofs.ask_cases.put.Tie as tie
+use Rattle.cases.proofs.scan_cases.put.Statement.{statement}
+use Rattle.cases.proofs.scan_cases.put.Tie as tie
 
 returns : tie.Need-returns
 returns c = search needs

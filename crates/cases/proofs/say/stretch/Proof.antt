@@ -3,8 +3,8 @@ use Prim.Native.Nat.{_≤_, _-_}
 use lib.ListN.{length}
 use native.Mathlib.Omega.{arith}
 use borrow.Author.Needs.{needs}
-use Rattle.cases.proofs.build_cases.stretch.Statement.{statement}
-use Rattle.cases.proofs.build_cases.stretch.Tie as tie
+use Rattle.cases.proofs.say.stretch.Statement.{statement}
+use Rattle.cases.proofs.say.stretch.Tie as tie
 
 abbrev Inv-loop : tie.InvT-loop
 Inv-loop words from to word i₀ i = to ≤ length words

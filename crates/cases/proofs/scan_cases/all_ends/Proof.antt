@@ -2,8 +2,8 @@
 use Prim.Native.Nat.{_≤_, _-_}
 use native.Mathlib.Omega.{arith}
 use borrow.Author.Needs.{needs}
-use Rattle.cases.proofs.ask_cases.all_ends.Statement.{statement}
-use Rattle.cases.proofs.ask_cases.all_ends.Tie as tie
+use Rattle.cases.proofs.scan_cases.all_ends.Statement.{statement}
+use Rattle.cases.proofs.scan_cases.all_ends.Tie as tie
 
 abbrev Inv-loop : tie.InvT-loop
 Inv-loop numbers table d o r start end₀ end = start ≤ end
