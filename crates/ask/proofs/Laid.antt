@@ -2,7 +2,7 @@
 use mathlib.Core.Path.{_≡_, refl, sym, ap, _∙_}
 use mathlib.Core.Bool.{Bool, true, false}
 use mathlib.Core.List.{List}
-use Prim.Native.Nat.{ℕ, zero, suc, _+_, _-_, _*_, _/_, _%_, _^_, _≤_, _<_}
+use Prim.Native.Nat.{ℕ, zero, suc, _+_, _*_, _/_, _%_, _^_, _≤_, _<_}
 use native.Mathlib.Nat.{two-pow-succ}
 use native.Mathlib.Numerals.{add-one}
 use native.Mathlib.Omega.{arith}
@@ -20,11 +20,10 @@ use Rattle.trip.specs.declared.Trip.{Trip}
 use Rattle.layout.specs.declared.Half.{Half}
 use Rattle.layout.specs.Stored.{subdivisionOf}
 use Rattle.layout.specs.Words.{entryWords, rows, tripAt, order, partitions, partitionNumber, slot}
-use Rattle.layout.proofs.Numbers.{level-number, place-number}
 use Rattle.layout.proofs.RowOrder.{Distinct}
 use Rattle.layout.proofs.Local.{slot-sorted}
 use Rattle.layout.proofs.Rows.{length-rows, getD-rows, rows-words}
-use Rattle.layout.proofs.Reading.{slots-rise, slots-room, slots-part}
+use Rattle.layout.proofs.Reading.{slot-from, slots-rise, slots-room, slots-part}
 pub use Rattle.layout.proofs.Reading.{LaidFrom as Laid, originals-laid, replicas-laid}
 use Rattle.ask.specs.Plan.{firstSlot, stretch}
 use Rattle.ask.specs.Part.{stretchWords, There}
@@ -116,11 +115,8 @@ module _ {s : Scale} {h : Half} {ts : List Trip} {d : List ℕ} {base : ℕ} {l 
 
 module _ (s : Scale) (h : Half) (ts : List Trip) (L i n : ℕ) (deep : L ≤ s .m) (inside : 2 * i + n ≤ 2 * 2 ^ L) where
   slot-is : (q : ℕ) → q < n → slot s h ts (firstSlot L i + q) ≡ slotFrom s h ts L i q
-  unfolding firstSlot slot slotFrom partitionNumber
-  slot-is q l =
-      let a : (2 * (2 ^ L - 1 + i) + q) % 2 ≡ q % 2 = omega arith in
-      let b : (2 * (2 ^ L - 1 + i) + q) / 2 ≡ 2 ^ L - 1 + (i + q / 2) = omega arith in
-      rw (a, b, level-number (s .m) L (i + q / 2) deep (omega arith), place-number (s .m) L (i + q / 2) deep (omega arith))
+  unfolding firstSlot slotFrom
+  slot-is q l = slot-from s h ts L i deep q (omega arith)
 
   level-slots : joined (λ q. slot s h ts (firstSlot L i + q)) n ≡ slotsFrom s h ts L i n
   unfolding slotsFrom

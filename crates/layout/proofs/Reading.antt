@@ -5,6 +5,7 @@ use mathlib.Core.Bool.{Bool, true, false}
 use mathlib.Core.List.{List, _++_}
 use Prim.Native.Nat.{ℕ, _+_, _-_, _*_, _/_, _%_, _^_, _≤_, _<_}
 use native.Mathlib.Omega.{arith}
+use lib.Dec.{eqb}
 use lib.ListN.{length, getD, take, drop, List·getD-append, length-append}
 use lib.Seq.{getD-append-add}
 use Rattle.lists.specs.Lists.{joined, padded}
@@ -21,21 +22,22 @@ use Rattle.layout.proofs.Rows.{words-length, words-le}
 use Rattle.layout.proofs.RowParts.{words-joined}
 use Rattle.layout.proofs.Indexes.{directoryHalf-length, half-word, Indexed}
 
--- ---- the slot of a side of partition i of level L
+-- ---- the slots of a level
 
-module _ (s : Scale) (h : Half) (ts : List Trip) (L i : ℕ) (deep : L ≤ s .m) (there : i < 2 ^ L) where
-  pub slot-numbered : (aft : Bool) → slot s h ts (slotNumber L i aft) ≡ slotTrips s (subdivisionOf h aft) L i ts
-  unfolding slot slotNumber
-  slot-numbered false =
-      let p = partitionNumber L i in
-      let half : (2 * p + 0) / 2 ≡ p = omega arith in
-      let side : (2 * p + 0) % 2 ≡ 0 = omega arith in
-      rw (half, side, level-number (s .m) L i deep there, place-number (s .m) L i deep there)
-  slot-numbered true =
-      let p = partitionNumber L i in
-      let half : (2 * p + 1) / 2 ≡ p = omega arith in
-      let side : (2 * p + 1) % 2 ≡ 1 = omega arith in
-      rw (half, side, level-number (s .m) L i deep there, place-number (s .m) L i deep there)
+module _ (s : Scale) (h : Half) (ts : List Trip) (L i : ℕ) (deep : L ≤ s .m) where
+  -- slot q from the "in" slot of partition i on is one of partition i + q / 2, and an "aft" slot where q is odd
+  pub slot-from : (q : ℕ) → i + q / 2 < 2 ^ L → slot s h ts (2 * partitionNumber L i + q) ≡ slotTrips s (subdivisionOf h (eqb (q % 2) 1)) L (i + q / 2) ts
+  unfolding slot partitionNumber
+  slot-from q there =
+      let side : (2 * (2 ^ L - 1 + i) + q) % 2 ≡ q % 2 = omega arith in
+      let half : (2 * (2 ^ L - 1 + i) + q) / 2 ≡ 2 ^ L - 1 + (i + q / 2) = omega arith in
+      rw (side, half, level-number (s .m) L (i + q / 2) deep there, place-number (s .m) L (i + q / 2) deep there)
+
+  -- the slot of a side of partition i
+  pub slot-numbered : i < 2 ^ L → (aft : Bool) → slot s h ts (slotNumber L i aft) ≡ slotTrips s (subdivisionOf h aft) L i ts
+  unfolding slotNumber
+  slot-numbered there false = let e : i + 0 / 2 ≡ i = omega arith in rw e at (slot-from 0 (omega arith))
+  slot-numbered there true = let e : i + 1 / 2 ≡ i = omega arith in rw e at (slot-from 1 (omega arith))
 
 pub slot-inside : (m L i : ℕ) (aft : Bool) → L ≤ m → i < 2 ^ L → slotNumber L i aft < 2 * partitions m
 unfolding slotNumber

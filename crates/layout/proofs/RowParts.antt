@@ -12,14 +12,18 @@ use Rattle.trip.specs.declared.Trip.{Trip}
 use Rattle.layout.specs.Words.{entryWords, words, rows}
 use Rattle.layout.proofs.Rows.{whole, whole-rest, length-rows, rows-append, words-rows, words-append, words-length, words-add}
 
+-- whole entries, and then more words
+pub rows-of-two : (p q : List ℕ) → length p % entryWords ≡ 0 → rows (p ++ q) ≡ rows p ++ rows q
+rows-of-two p q h = ap (λ (z : List ℕ). rows (z ++ q)) (sym (words-rows p h)) ∙ rows-append (rows p) q
+
 module _ (n : ℕ) (l : List ℕ) (h : n ≤ length l / entryWords) where
   -- the words of the first n entries
   pub front-length : length (take (entryWords * n) l) ≡ entryWords * n
   unfolding entryWords
   front-length = length-take-le (entryWords * n) l (omega arith)
 
-  front-words : words (rows (take (entryWords * n) l)) ≡ take (entryWords * n) l
-  front-words = words-rows (take (entryWords * n) l) (ap (λ (k : ℕ). k % entryWords) front-length ∙ whole-rest n)
+  front-whole : length (take (entryWords * n) l) % entryWords ≡ 0
+  front-whole = ap (λ (k : ℕ). k % entryWords) front-length ∙ whole-rest n
 
   front-rows : length (rows (take (entryWords * n) l)) ≡ n
   front-rows = length-rows (take (entryWords * n) l) ∙ ap (λ (k : ℕ). k / entryWords) front-length ∙ whole n
@@ -27,9 +31,7 @@ module _ (n : ℕ) (l : List ℕ) (h : n ≤ length l / entryWords) where
   -- the first n rows, and the others
   pub rows-split : rows l ≡ rows (take (entryWords * n) l) ++ rows (drop (entryWords * n) l)
   rows-split =
-      let p = take (entryWords * n) l in
-      let q = drop (entryWords * n) l in
-      ap rows (sym (take-append-drop (entryWords * n) l)) ∙ ap (λ (k : List ℕ). rows (k ++ q)) (sym front-words) ∙ rows-append (rows p) q
+      ap rows (sym (take-append-drop (entryWords * n) l)) ∙ rows-of-two (take (entryWords * n) l) (drop (entryWords * n) l) front-whole
 
   pub rows-take : take n (rows l) ≡ rows (take (entryWords * n) l)
   rows-take = ap (take n) rows-split ∙ take-at (rows (take (entryWords * n) l)) (rows (drop (entryWords * n) l)) n front-rows
@@ -39,13 +41,7 @@ module _ (n : ℕ) (l : List ℕ) (h : n ≤ length l / entryWords) where
 
   -- the first n rows are written back as the words that they were
   pub words-take : words (take n (rows l)) ≡ take (entryWords * n) l
-  words-take = ap words rows-take ∙ front-words
-
--- ---- two parts side by side
-
--- whole entries, and then more words
-pub rows-of-two : (p q : List ℕ) → length p % entryWords ≡ 0 → rows (p ++ q) ≡ rows p ++ rows q
-rows-of-two p q h = ap (λ (z : List ℕ). rows (z ++ q)) (sym (words-rows p h)) ∙ rows-append (rows p) q
+  words-take = ap words rows-take ∙ words-rows (take (entryWords * n) l) front-whole
 
 -- the entries a up to c of an arena are those a up to b and b up to c
 pub rows-apart : (l : List ℕ) (a b c : ℕ) → a ≤ b → b ≤ c → entryWords * c ≤ length l
