@@ -19,6 +19,7 @@ use Rattle.layout.specs.Words.{partitionNumber, halfLength, Index}
 use Rattle.layout.specs.Refusals.{tableOf, isIndex}
 use Rattle.layout.proofs.RowOrder.{Distinct}
 use Rattle.layout.proofs.Indexes.{Indexed, of-isIndex}
+use Rattle.layout.proofs.Reading.{LaidFrom, originals-laid, replicas-laid}
 use Rattle.plan.specs.declared.range.Plan.{Plan}
 use Rattle.plan.specs.Plan.{Ranged, originalSlots, replicaSlots, firstSlot, slotAt, sureFirst, sureLast, keepUnless, stretch, arranged, stretchesAt}
 use Rattle.plan.proofs.Looked.{slotsFrom, width, lookedAt, levelWalk, walk}
@@ -27,7 +28,7 @@ use Rattle.plan.proofs.Sure.{three-pieces, first-sure, between-sure, last-sure,
 use Rattle.ask.specs.Part.{stretchMatches, There}
 use Rattle.ask.specs.Cut.{SlotsThere}
 use Rattle.ask.specs.Levels.{AllThere, levelMatches, LevelsThere, levelsMatches}
-use Rattle.ask.proofs.Laid.{Laid, originals-laid, replicas-laid, stretch-is, stretch-there, partition-there}
+use Rattle.ask.proofs.Laid.{stretch-is, stretch-there, partition-there}
 
 -- what the walk asks: an index, a plan on its ruler, and that a quick plan is right to be so
 pub record Ready (s : Scale) (t : Trip → Bool) (p : Plan) (x : Index) : Type 0 where
@@ -60,10 +61,10 @@ module _ {s : Scale} {t : Trip → Bool} {p : Plan} {x : Index} (r : Ready s t p
   apart : Distinct ts
   apart = indexed .table .rowsOk .distinct
 
-  originals : Laid s Originals ts (x .directory) 0 (x .originals)
+  originals : LaidFrom s Originals ts (x .directory) 0 (x .originals)
   originals = originals-laid s x indexed
 
-  replicas : Laid s Replicas ts (x .directory) (halfLength (s .m)) (x .replicas)
+  replicas : LaidFrom s Replicas ts (x .directory) (halfLength (s .m)) (x .replicas)
   replicas = replicas-laid s x indexed
 
   -- a stretch of n slots from partition i on: it is there, and these match

@@ -29,6 +29,7 @@ use Rattle.layout.proofs.Partitions.{Fits}
 use Rattle.layout.proofs.Tables.{Table}
 use Rattle.layout.proofs.Indexes.{Indexed, of-isIndex, back-length}
 use Rattle.layout.proofs.Edits.{idOf, ids-differ, ids-in, matches-distinct}
+use Rattle.layout.proofs.Reading.{originals-laid}
 use Rattle.store.specs.Entries.{ids}
 use Rattle.plan.specs.declared.bounds.Bounds.{Bounds}
 use Rattle.plan.specs.declared.range.Plan.{Plan}
@@ -40,7 +41,6 @@ use Rattle.plan.proofs.Walked.{Suits, walk-in, in-walk, walk-distinct}
 use Rattle.plan.proofs.Suited.{planAt, plan-for, in-range, suits-plan, quick-right}
 use Rattle.ask.specs.Levels.{LevelsThere, levelsMatches}
 use Rattle.ask.specs.Chain.{OnRuler}
-use Rattle.ask.proofs.Laid.{Laid, originals-laid}
 use Rattle.ask.proofs.Levels.{Ready, levels-there, levels-match}
 use Rattle.ask.proofs.Written.{ids-length}
 

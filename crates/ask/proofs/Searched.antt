@@ -1,18 +1,18 @@
 -- What a search by halving finds in a slot, and that the entries which it cuts off do not match.
 use mathlib.Core.Path.{_≡_, refl, sym, ap, _∙_}
-use mathlib.Core.Bool.{Bool, true, false, true≢false, _&&_, _||_}
-use mathlib.Core.List.{List, [], _∷_, _++_, append-nil}
-use Prim.Native.Nat.{ℕ, zero, suc, _+_, _-_, _*_, _/_, _≤_, _<_}
+use mathlib.Core.Bool.{Bool, true, false, true≢false, _&&_, _||_, and-false}
+use mathlib.Core.List.{List, [], _++_, append-nil}
+use Prim.Native.Nat.{ℕ, _+_, _-_, _*_, _/_, _≤_, _<_}
 use native.Mathlib.Omega.{arith}
 use lib.Dec.{ltb, eqb}
 use lib.ListN.{length, getD, take, drop, length-drop}
 use lib.Seq.{getD-take}
 use borrow.Author.Tests.{lt-ltb, ltb-true, eqb-true, lt-leb}
 use Rattle.lists.specs.Lists.{keep}
-use Rattle.lists.proofs.Kept.{keep-append}
+use Rattle.lists.proofs.Kept.{keep-append, keep-none}
 use Rattle.lists.proofs.Halving.{Between, Falls, between-start, between-up, between-down}
 use Rattle.ruler.specs.declared.Time.{Time}
-use Rattle.ruler.specs.Ruler.{before, noLater}
+use Rattle.ruler.specs.Ruler.{noLater}
 use Rattle.trip.specs.declared.Trip.{Trip}
 use Rattle.layout.specs.declared.Half.the-variants.{Originals, Replicas}
 use Rattle.layout.specs.Stored.{subdivisionOf}
@@ -86,12 +86,6 @@ module _ (ends : Bool) (limit : Time) (part : List ℕ) (rises : Rises ends part
 
 -- ---- what is cut off
 
--- nothing is kept where no value passes
-none-passes : (t : Trip → Bool) (d : Trip) (l : List Trip) → ((j : ℕ) → j < length l → t (getD l j d) ≡ false) → keep t l ≡ []
-unfolding keep
-none-passes t d [] h = refl
-none-passes t d (x ∷ l) h = rw (h 0 (omega arith)) (none-passes t d l (λ j k. h (suc j) (omega arith)))
-
 -- the entries from lo up to `to`, where none before them and none after them passes
 module _ (t : Trip → Bool) (part : List ℕ) (lo to : ℕ) (a : lo ≤ to) (b : to ≤ length part / entryWords)
     (front : (j : ℕ) → j < lo → t (tripAt part j) ≡ false) (rest : (j : ℕ) → to ≤ j → j < length part / entryWords → t (tripAt part j) ≡ false) where
@@ -105,7 +99,7 @@ module _ (t : Trip → Bool) (part : List ℕ) (lo to : ℕ) (a : lo ≤ to) (b 
   front-fails : keep t (rows (take (entryWords * lo) part)) ≡ []
   front-fails =
       let few = length-rows (take (entryWords * lo) part) ∙ ap (λ (n : ℕ). n / entryWords) (front-length lo part (omega arith)) ∙ whole lo in
-      none-passes t (tripAt part 0) (rows (take (entryWords * lo) part)) (λ j h.
+      keep-none t (tripAt part 0) (rows (take (entryWords * lo) part)) (λ j h.
       let at : getD (rows (take (entryWords * lo) part)) j (tripAt part 0) ≡ tripAt part j =
       ap (λ (l : List Trip). getD l j (tripAt part 0)) (sym (rows-take lo part (omega arith)))
       ∙ getD-take lo (rows part) j (tripAt part 0) (omega arith)
@@ -120,7 +114,7 @@ module _ (t : Trip → Bool) (part : List ℕ) (lo to : ℕ) (a : lo ≤ to) (b 
       let few : length (rows last) ≡ length part / entryWords - to =
       length-rows last ∙ rw (length-drop, length-drop) (omega arith)
       in
-      none-passes t (tripAt part 0) (rows last) (λ j h.
+      keep-none t (tripAt part 0) (rows last) (λ j h.
       let at : getD (rows last) j (tripAt part 0) ≡ tripAt part (lo + ((to - lo) + j)) =
       getD-rows last j (tripAt part 0) (rw length-rows at h) ∙ tripAt-drop (to - lo) later j ∙ tripAt-drop lo part ((to - lo) + j)
       in
@@ -139,10 +133,6 @@ module _ (t : Trip → Bool) (part : List ℕ) (lo to : ℕ) (a : lo ≤ to) (b 
       (ap (keep t) (rows-split (to - lo) later (rw long (omega arith))) ∙ keep-append t middle last)
       in
       rw (size, all, front-fails, rest-fails, append-nil) refl
-
-and-false : (b : Bool) → b && false ≡ false
-and-false true = refl
-and-false false = refl
 
 -- a time before the span, or not before its end, is not one of the span's; so an entry with it does not match
 module _ (ends : Bool) (bounds : Bounds) (u : Trip) where

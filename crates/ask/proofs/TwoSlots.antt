@@ -1,41 +1,21 @@
 -- The matches of a partition's stretch are those of its "in" slot and then those of its "aft" slot.
-use mathlib.Core.Path.{_≡_, refl, sym, ap, ap₂, subst, _∙_}
-use mathlib.Core.Bool.{Bool, true, false}
+use mathlib.Core.Path.{_≡_, sym, ap, _∙_}
+use mathlib.Core.Bool.{Bool, false}
 use mathlib.Core.List.{List, _++_}
-use Prim.Native.Nat.{ℕ, _+_, _-_, _*_, _%_, _≤_}
+use Prim.Native.Nat.{ℕ, _+_, _≤_}
 use native.Mathlib.Omega.{arith}
-use lib.ListN.{length, take, drop, getD, length-append, length-drop}
-use lib.Seq.{take-add, drop-drop, length-take-le}
+use lib.ListN.{length, getD, length-append}
 use Rattle.lists.specs.Lists.{keep}
 use Rattle.lists.proofs.Kept.{keep-append}
 use Rattle.trip.specs.declared.Trip.{Trip}
 use Rattle.layout.specs.declared.Half.{Half}
-use Rattle.layout.specs.Words.{entryWords, rows}
-use Rattle.layout.proofs.Rows.{rows-append, words-rows}
+use Rattle.layout.specs.Words.{rows}
+use Rattle.layout.proofs.RowParts.{rows-apart}
 use Rattle.plan.specs.declared.stretches.Stretch.{Stretch}
 use Rattle.plan.specs.Plan.{keepUnless}
-use Rattle.ask.specs.Part.{stretchWords, stretchMatches, There, ListedFrom}
+use Rattle.ask.specs.Part.{stretchWords, stretchMatches, ListedFrom}
 use Rattle.ask.specs.Cut.{inSlot, aftSlot, afterIn, SlotsThere}
 use Rattle.ask.proofs.Written.{from-room, from-more}
-
--- whole entries, and then more words
-rows-of-two : (p q : List ℕ) → length p % entryWords ≡ 0 → rows (p ++ q) ≡ rows p ++ rows q
-rows-of-two p q h = ap (λ (z : List ℕ). rows (z ++ q)) (sym (words-rows p h)) ∙ rows-append (rows p) q
-
--- the entries a up to c of an arena are those a up to b and b up to c
-rows-apart : (l : List ℕ) (a b c : ℕ) → a ≤ b → b ≤ c → entryWords * c ≤ length l
-    → rows (take (entryWords * c - entryWords * a) (drop (entryWords * a) l))
-    ≡ rows (take (entryWords * b - entryWords * a) (drop (entryWords * a) l)) ++ rows (take (entryWords * c - entryWords * b) (drop (entryWords * b) l))
-unfolding entryWords
-rows-apart l a b c h g room =
-    let n = entryWords * b - entryWords * a in
-    let m = entryWords * c - entryWords * b in
-    let later = drop (entryWords * a) l in
-    let sum : entryWords * c - entryWords * a ≡ n + m = omega arith in
-    let at : entryWords * a + n ≡ entryWords * b = omega arith in
-    let rest : drop n later ≡ drop (entryWords * b) l = drop-drop n (entryWords * a) l ∙ ap (λ (k : ℕ). drop k l) at in
-    let long : length (take n later) ≡ n = length-take-le n later (rw length-drop (omega arith)) in
-    rw (sum, take-add n m later, rest) (rows-of-two (take n later) (take m (drop (entryWords * b) l)) (rw long (omega arith)))
 
 module _ (t : Trip → Bool) {h : Half} {d l : List ℕ} {s : Stretch} (w : SlotsThere h d l s) (tested : s .sure ≡ false) where
   abbrev ins : List Trip

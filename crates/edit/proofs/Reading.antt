@@ -1,34 +1,31 @@
 -- What the code reads of words that are an index: how many trips and replicas, the rows of the trips, and the halves of the directory.
 use mathlib.Core.Path.{_≡_, refl, sym, ap, ap₂, subst, _∙_}
-use mathlib.Core.Bool.{Bool, true, false, cond, not, _||_}
+use mathlib.Core.Bool.{Bool, true, false, cond, _||_}
 use mathlib.Core.List.{List, [], _∷_, _++_, append-nil}
-use Prim.Native.Nat.{ℕ, zero, suc, _+_, _-_, _*_, _/_, _^_, _≤_, _<_}
+use Prim.Native.Nat.{ℕ, suc, _+_, _-_, _*_, _/_, _≤_, _<_}
 use native.Mathlib.Nat.{le-of-suc-le-suc, not-suc-le-zero}
 use native.Mathlib.Decide.{decLt}
 use native.Mathlib.Omega.{arith}
-use lib.Dec.{T, ltb, eqb, eqb→eq}
-use lib.ListN.{length, getD, take, drop, replicate, length-append, List·getD-append, drop-of-length-le}
-use lib.Seq.{take-at, drop-at, take-length, getD-append-add, drop-length, drop-cons, drop-drop}
+use lib.Dec.{ltb, eqb}
+use lib.ListN.{length, getD, take, drop, replicate, drop-of-length-le}
+use lib.Seq.{take-at, drop-at, take-length, drop-length, drop-cons, drop-drop}
 use borrow.Rule.Slice.PartMut.{putMid}
 use borrow.Author.Tests.{eqb-true, lt-ltb, le-ltb}
 use Rattle.lists.specs.Lists.{padded}
-use Rattle.lists.proofs.Halving.{at-mem}
 use Rattle.ruler.specs.Ruler.{Scale, mostTrips}
-use Rattle.ruler.proofs.Fair.{Fair}
 use Rattle.trip.specs.declared.Trip.{Trip}
-use Rattle.layout.specs.declared.Half.{Half}
 use Rattle.layout.specs.declared.Half.the-variants.{Originals, Replicas}
-use Rattle.layout.specs.Words.{entryWords, tripAt, words, rows, partitions, halfLength, directoryLength, entries, directoryHalf, Index, Lengths, lengthsOf, layout}
+use Rattle.layout.specs.Words.{entryWords, tripAt, words, rows, partitions, halfLength, directoryLength, entries, directoryHalf, Index, lengthsOf, layout}
 use Rattle.layout.specs.Words as laid
 use Rattle.layout.specs.Refusals.{hasId, tableOf, mostPartitions}
 use Rattle.layout.specs.Calls.{index}
-use Rattle.layout.proofs.Partitions.{Fits}
 use Rattle.layout.proofs.Rows.{words-length, rows-words, getD-rows}
-use Rattle.layout.proofs.Indexes.{Indexed, directoryHalf-length, last-word, table-of-layout}
+use Rattle.layout.proofs.Indexes.{Indexed, directoryHalf-length, table-of-layout}
+use Rattle.layout.proofs.Reading.{directory-are, originals-are, replicas-are, directory-long, originals-laid, replicas-laid}
 use Rattle.layout.proofs.RoomAdded.{entries-most}
 use Rattle.store.specs.Ordered.{noTrip}
 use Rattle.edit.specs.Search.{placeOfId}
-use Rattle.edit.specs.Halves.{arenaOf, HalfOf}
+use Rattle.edit.specs.Halves.{HalfOf}
 
 -- ---- the trip of an id
 
@@ -150,47 +147,21 @@ pub record Shown (s : Scale) (x : Index) : Type 0 where
   pub few-copies : length (entries s Replicas (tableOf s x)) ≤ mostTrips * mostPartitions
 
 module _ (s : Scale) (x : Index) (h : Indexed s x) where
-  pub directory-is : x .directory ≡ directoryHalf s Originals (tableOf s x) ++ directoryHalf s Replicas (tableOf s x)
-  unfolding layout
-  directory-is = ap (λ (y : Index). y .directory) (h .words-are)
-
-  pub originals-are : x .originals ≡ laid.arena s Originals (tableOf s x) (length (x .originals))
-  unfolding layout lengthsOf
-  originals-are = ap (λ (y : Index). y .originals) (h .words-are)
-
-  pub replicas-are : x .replicas ≡ laid.arena s Replicas (tableOf s x) (length (x .replicas))
-  unfolding layout lengthsOf
-  replicas-are = ap (λ (y : Index). y .replicas) (h .words-are)
-
-  pub directory-size : length (x .directory) ≡ directoryLength (s .m)
-  unfolding lengthsOf
-  directory-size = h .table .directory
-
   -- the table is read off its own originals
   itself : tableOf s x ≡ entries s Originals (tableOf s x)
   itself = ap (tableOf s) (h .words-are) ∙ table-of-layout s (tableOf s x) (lengthsOf x)
 
   many : getD (x .directory) (length (x .directory) / 2 - 1) 0 ≡ length (tableOf s x)
-  unfolding directoryLength halfLength
+  unfolding directoryLength entries
   many =
-      let o = directoryHalf s Originals (tableOf s x) in
-      let at : length (x .directory) / 2 - 1 ≡ 2 * partitions (s .m) = omega (arith, directory-size) in
-      ap₂ (λ (d : List ℕ) (k : ℕ). getD d k 0) directory-is at
-      ∙ List·getD-append o (directoryHalf s Replicas (tableOf s x)) 0 (2 * partitions (s .m)) (rw directoryHalf-length (omega arith))
-      ∙ last-word s Originals (tableOf s x) ∙ ap length (sym itself)
+      let at : length (x .directory) / 2 - 1 ≡ 0 + 2 * partitions (s .m) = omega (arith, directory-long s x h) in
+      rw at (originals-laid s x h .word (2 * partitions (s .m)) (omega arith)) ∙ ap length (sym itself)
 
   replicated : getD (x .directory) (length (x .directory) - 1) 0 ≡ length (entries s Replicas (tableOf s x))
-  unfolding directoryLength halfLength
+  unfolding directoryLength halfLength entries
   replicated =
-      let o = directoryHalf s Originals (tableOf s x) in
-      let at : length (x .directory) - 1 ≡ length o + 2 * partitions (s .m) = omega (
-        arith,
-        directory-size,
-        directoryHalf-length s Originals
-            (tableOf s x),
-      ) in
-      ap₂ (λ (d : List ℕ) (k : ℕ). getD d k 0) directory-is at
-      ∙ getD-append-add o (directoryHalf s Replicas (tableOf s x)) (2 * partitions (s .m)) 0 ∙ last-word s Replicas (tableOf s x)
+      let at : length (x .directory) - 1 ≡ halfLength (s .m) + 2 * partitions (s .m) = omega (arith, directory-long s x h) in
+      rw at (replicas-laid s x h .word (2 * partitions (s .m)) (omega arith))
 
   front : rows (take (entryWords * length (tableOf s x) - 0) (x .originals)) ≡ tableOf s x
   unfolding laid.arena padded
@@ -199,7 +170,7 @@ module _ (s : Scale) (x : Index) (h : Indexed s x) where
       let z : entryWords * length (tableOf s x) - 0 ≡ entryWords * length (tableOf s x) = omega arith in
       let n : length l ≡ entryWords * length (tableOf s x) = words-length (entries s Originals (tableOf s x))
       ∙ ap (λ (k : List Trip). entryWords * length k) (sym itself) in
-      ap rows (ap₂ take z originals-are ∙ take-at l (replicate (length (x .originals) - length l) 0) (entryWords * length (tableOf s x)) n)
+      ap rows (ap₂ take z (originals-are s x h) ∙ take-at l (replicate (length (x .originals) - length l) 0) (entryWords * length (tableOf s x)) n)
       ∙ rows-words (entries s Originals (tableOf s x)) ∙ sym itself
 
   enough : entryWords * length (tableOf s x) ≤ length (x .originals)
@@ -208,7 +179,7 @@ module _ (s : Scale) (x : Index) (h : Indexed s x) where
 
   pub shown : Shown s x
   shown = record {
-    size = directory-size;
+    size = directory-long s x h;
     trips = many;
     copies = replicated;
     firsts = ap length (sym itself);
@@ -222,22 +193,22 @@ module _ (s : Scale) (x : Index) (h : Indexed s x) where
 
   pub first-of : HalfOf s Originals (tableOf s x) x (take (length (x .directory) / 2 - 0) (x .directory)) (x .originals)
   first-of = record {
-    directory-is = take-first s (tableOf s x) (length (x .directory)) directory-size
-        (x .directory) directory-is;
-    arena-is = originals-are;
+    directory-is = take-first s (tableOf s x) (length (x .directory)) (directory-long s x h)
+        (x .directory) (directory-are s x h);
+    arena-is = originals-are s x h;
   }
 
   module _ (ts : List Trip) (f o : List ℕ) (w : HalfOf s Originals ts x f o) where
     long-f : length f ≡ length (x .directory) / 2
     unfolding first-half
-    long-f = ap length (w .directory-is) ∙ long-first s ts (length (x .directory)) directory-size
+    long-f = ap length (w .directory-is) ∙ long-first s ts (length (x .directory)) (directory-long s x h)
 
     pub second-of : HalfOf s Replicas (tableOf s x) x
         (take (length (x .directory) - length (x .directory) / 2)
         (drop (length (x .directory) / 2) (f ++ drop (length (x .directory) / 2 - 0) (drop 0 (x .directory))))) (x .replicas)
     second-of = record {
-      directory-is = take-second s (tableOf s x) (length (x .directory)) directory-size (x .directory) f directory-is long-f;
-      arena-is = replicas-are;
+      directory-is = take-second s (tableOf s x) (length (x .directory)) (directory-long s x h) (x .directory) f (directory-are s x h) long-f;
+      arena-is = replicas-are s x h;
     }
 
     -- both halves back are the whole index of the trips
@@ -247,7 +218,7 @@ module _ (s : Scale) (x : Index) (h : Indexed s x) where
         ≡ layout s ts (lengthsOf x)
     unfolding layout lengthsOf
     both-of g r v =
-        let d = put-both s ts (length (x .directory)) directory-size (x .directory) f g refl long-f ∙ ap₂ _++_ (w .directory-is) (v .directory-is) in
+        let d = put-both s ts (length (x .directory)) (directory-long s x h) (x .directory) f g refl long-f ∙ ap₂ _++_ (w .directory-is) (v .directory-is) in
         let a = w .arena-is in
         let b = v .arena-is in
         λ i. record { directory = d i; originals = a i; replicas = b i }

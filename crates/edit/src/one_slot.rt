@@ -1,7 +1,7 @@
 // One slot of a half in an edit: the place of a trip in the slot's order, and the entry put in or taken out there.
 use layout::ENTRY_WORDS;
 use layout::Half;
-use layout::Subdivision;
+use layout::subdivision_of;
 use store::search;
 use store::slot;
 use trip::Trip;
@@ -9,27 +9,7 @@ ghost use mathlib.Core.Path.{_≡_};
 ghost use mathlib.Core.List.{List};
 ghost use Rattle.trip.specs.declared.Trip.{Trip};
 ghost use Rattle.store.specs.Slots.{insertedIn, removedIn, Holds};
-ghost use Rattle.edit.specs.Places.{subdivisionAt, placeIn, Orderly, Vacant, Present};
-
-fn subdivision_at(half: Half, slot: usize) -> Subdivision
-    ensures { λ r. ⌜ r ≡ subdivisionAt half slot ⌝ }
-{
-    let aft = slot % 2 == 1;
-    match half {
-        Half::Originals => {
-            if aft {
-                return Subdivision::OAft;
-            }
-            Subdivision::OIn
-        }
-        Half::Replicas => {
-            if aft {
-                return Subdivision::RAft;
-            }
-            Subdivision::RIn
-        }
-    }
-}
+ghost use Rattle.edit.specs.Places.{placeIn, Orderly, Vacant, Present};
 
 // Where a trip stands in a slot's order: the slot's part of the arena is searched, between two words of the directory.
 fn place_in(half: Half, dir: &[u32], arena: &[u32], slot: usize, t: Trip) -> usize
@@ -38,7 +18,7 @@ fn place_in(half: Half, dir: &[u32], arena: &[u32], slot: usize, t: Trip) -> usi
 {
     let first = ENTRY_WORDS * (dir[slot] as usize);
     let end = ENTRY_WORDS * (dir[slot + 1] as usize);
-    search::find_place(&arena[first..end], subdivision_at(half, slot), t)
+    search::find_place(&arena[first..end], subdivision_of(half, slot % 2 == 1), t)
 }
 
 // Puts a trip into a slot, at its place in the slot's order.

@@ -1,13 +1,13 @@
 -- Refusal 8: the computed test `isIndex` passes exactly on the indexes of the tables that build accepts, and the trips read off such an
 -- index are the table's.
-use mathlib.Core.Path.{_≡_, refl, sym, ap, subst, _∙_}
+use mathlib.Core.Path.{_≡_, sym, ap, subst, _∙_}
 use mathlib.Core.Bool.{_&&_}
 use mathlib.Core.List.{List, _++_, List·Memᴰ·not-nil as not-nil}
-use Prim.Native.Nat.{ℕ, _+_, _-_, _*_, _≤_}
+use Prim.Native.Nat.{ℕ, _+_, _*_, _≤_}
 use native.Mathlib.Omega.{arith}
 use lib.Dec.{T}
 use lib.ListN.{length, getD, List·getD-append, length-append}
-use Rattle.lists.specs.Lists.{same, upTo, padded}
+use Rattle.lists.specs.Lists.{same, padded}
 use Rattle.lists.proofs.Tests.{of-and, to-and}
 use Rattle.lists.proofs.Members.{In}
 use Rattle.lists.proofs.Padded.{padded-length}
@@ -25,7 +25,7 @@ use Rattle.layout.proofs.RowOrder.{Distinct, layout-same, entries-same,
 use Rattle.layout.proofs.Slots.{of-originals, to-originals, originals-distinct}
 use Rattle.layout.proofs.Rows.{rows-words, rows-front, words-length}
 use Rattle.layout.proofs.Chains.{Room, of-accepted}
-use Rattle.layout.proofs.Tables.{RowsOk, Table, of-build, to-build}
+use Rattle.layout.proofs.Tables.{Table, of-build, to-build}
 
 -- ---- the lengths of a layout
 
@@ -50,12 +50,14 @@ layout-lengths s ts n d r =
 
 -- ---- the table that a layout shows
 
--- "the last word of a half is that half's total"
+-- "The word of a slot is the number of entries before it; the last word of a half is that half's total."
+pub half-word : (s : Scale) (h : Half) (ts : List Trip) (k : ℕ) → k ≤ 2 * partitions (s .m) → getD (directoryHalf s h ts) k 0 ≡ length (entriesBefore s h ts k)
+unfolding directoryHalf halfLength
+half-word s h ts k l = getD-upTo (λ j. length (entriesBefore s h ts j)) (2 * partitions (s .m) + 1) k 0 (omega arith)
+
 pub last-word : (s : Scale) (h : Half) (ts : List Trip) → getD (directoryHalf s h ts) (2 * partitions (s .m)) 0 ≡ length (entries s h ts)
-unfolding directoryHalf entries halfLength
-last-word s h ts =
-    let n = 2 * partitions (s .m) in
-    getD-upTo (λ k. length (entriesBefore s h ts k)) (n + 1) n 0 (omega arith)
+unfolding entries
+last-word s h ts = half-word s h ts (2 * partitions (s .m)) (omega arith)
 
 pub table-of-layout : (s : Scale) (ts : List Trip) (n : Lengths) → tableOf s (layout s ts n) ≡ entries s Originals ts
 unfolding tableOf layout arena padded halfLength

@@ -11,7 +11,8 @@ use lib.Seq.{take-at, drop-at}
 use Rattle.lists.specs.Lists.{joined, upTo, padded, sumOver}
 use Rattle.lists.proofs.Members.{In, of-joined, to-joined, pairs-keep}
 use Rattle.lists.proofs.Sorting.{Sorted, unique, sorted-sort}
-use Rattle.lists.proofs.Sublists.{no-longer, as-long, joined-ext}
+use Rattle.lists.proofs.Joined.{joined-ext}
+use Rattle.lists.proofs.Sublists.{no-longer, as-long}
 use Rattle.lists.proofs.Sums.{length-joined, sum-tight}
 use Rattle.lists.proofs.Upto.{length-upTo, upTo-ext}
 use Rattle.ruler.specs.Ruler.{Scale, mostTrips, deepest}

@@ -1,42 +1,43 @@
--- An index read by its directory: the slot of a partition's side, the word of a slot, the entries of a slot as a part of the arena, and the
--- entries of a level's slots added up.
-use mathlib.Core.Path.{_≡_, sym, ap, _∙_}
+-- An index read by its directory: the slot of a partition's side, the words of a half's slots, and the entries of slots as the part of the
+-- arena between two words.
+use mathlib.Core.Path.{_≡_, sym, ap, ap₂, _∙_}
 use mathlib.Core.Bool.{Bool, true, false}
-use mathlib.Core.List.{List, _++_, append-assoc}
-use Prim.Native.Nat.{ℕ, suc, _+_, _-_, _*_, _/_, _%_, _^_, _≤_, _<_}
-use native.Mathlib.Numerals.{add-one}
+use mathlib.Core.List.{List, _++_}
+use Prim.Native.Nat.{ℕ, _+_, _-_, _*_, _/_, _%_, _^_, _≤_, _<_}
 use native.Mathlib.Omega.{arith}
-use lib.ListN.{length, getD, take, drop, replicate, List·getD-append, length-append}
-use lib.Seq.{getD-append-add, take-at, drop-at}
+use lib.Dec.{eqb}
+use lib.ListN.{length, getD, take, drop, List·getD-append, length-append}
+use lib.Seq.{getD-append-add}
 use Rattle.lists.specs.Lists.{joined, padded}
-use Rattle.lists.proofs.Joined.{joined-add}
-use Rattle.lists.proofs.Upto.{getD-upTo}
+use Rattle.lists.proofs.Joined.{joined-add, length-more}
 use Rattle.ruler.specs.Ruler.{Scale}
 use Rattle.trip.specs.declared.Trip.{Trip}
 use Rattle.layout.specs.declared.Half.{Half}
 use Rattle.layout.specs.declared.Half.the-variants.{Originals, Replicas}
 use Rattle.layout.specs.Stored.{subdivisionOf}
-use Rattle.layout.specs.Words.{entryWords, words, partitions, halfLength, partitionNumber, slotNumber, slotTrips, slot, entriesBefore, entries, directoryHalf, arena, Index, lengthsOf, layout}
+use Rattle.layout.specs.Words.{entryWords, words, partitions, halfLength, directoryLength, partitionNumber, slotNumber, slotTrips, slot, entriesBefore, entries, directoryHalf, arena, Index, lengthsOf, layout}
 use Rattle.layout.specs.Refusals.{tableOf}
 use Rattle.layout.proofs.Numbers.{level-number, place-number, number-lt}
-use Rattle.layout.proofs.Rows.{words-append, words-length, words-add}
-use Rattle.layout.proofs.Indexes.{directoryHalf-length, Indexed}
+use Rattle.layout.proofs.Rows.{words-length, words-le}
+use Rattle.layout.proofs.RowParts.{words-joined}
+use Rattle.layout.proofs.Indexes.{directoryHalf-length, half-word, Indexed}
 
--- ---- the slot of a side of partition i of level L
+-- ---- the slots of a level
 
-module _ (s : Scale) (h : Half) (ts : List Trip) (L i : ℕ) (deep : L ≤ s .m) (there : i < 2 ^ L) where
-  pub slot-numbered : (aft : Bool) → slot s h ts (slotNumber L i aft) ≡ slotTrips s (subdivisionOf h aft) L i ts
-  unfolding slot slotNumber
-  slot-numbered false =
-      let p = partitionNumber L i in
-      let half : (2 * p + 0) / 2 ≡ p = omega arith in
-      let side : (2 * p + 0) % 2 ≡ 0 = omega arith in
-      rw (half, side, level-number (s .m) L i deep there, place-number (s .m) L i deep there)
-  slot-numbered true =
-      let p = partitionNumber L i in
-      let half : (2 * p + 1) / 2 ≡ p = omega arith in
-      let side : (2 * p + 1) % 2 ≡ 1 = omega arith in
-      rw (half, side, level-number (s .m) L i deep there, place-number (s .m) L i deep there)
+module _ (s : Scale) (h : Half) (ts : List Trip) (L i : ℕ) (deep : L ≤ s .m) where
+  -- slot q from the "in" slot of partition i on is one of partition i + q / 2, and an "aft" slot where q is odd
+  pub slot-from : (q : ℕ) → i + q / 2 < 2 ^ L → slot s h ts (2 * partitionNumber L i + q) ≡ slotTrips s (subdivisionOf h (eqb (q % 2) 1)) L (i + q / 2) ts
+  unfolding slot partitionNumber
+  slot-from q there =
+      let side : (2 * (2 ^ L - 1 + i) + q) % 2 ≡ q % 2 = omega arith in
+      let half : (2 * (2 ^ L - 1 + i) + q) / 2 ≡ 2 ^ L - 1 + (i + q / 2) = omega arith in
+      rw (side, half, level-number (s .m) L (i + q / 2) deep there, place-number (s .m) L (i + q / 2) deep there)
+
+  -- the slot of a side of partition i
+  pub slot-numbered : i < 2 ^ L → (aft : Bool) → slot s h ts (slotNumber L i aft) ≡ slotTrips s (subdivisionOf h aft) L i ts
+  unfolding slotNumber
+  slot-numbered there false = let e : i + 0 / 2 ≡ i = omega arith in rw e at (slot-from 0 (omega arith))
+  slot-numbered there true = let e : i + 1 / 2 ≡ i = omega arith in rw e at (slot-from 1 (omega arith))
 
 pub slot-inside : (m L i : ℕ) (aft : Bool) → L ≤ m → i < 2 ^ L → slotNumber L i aft < 2 * partitions m
 unfolding slotNumber
@@ -49,47 +50,65 @@ unfolding slotNumber partitionNumber
 slots-apart L i false = omega arith
 slots-apart L i true = omega arith
 
--- ---- the entries before a slot and those of the slot
+-- ---- the entries before a slot and those of the slots from it on
 
 module _ (s : Scale) (h : Half) (ts : List Trip) where
+  before-add : (j c : ℕ) → length (entriesBefore s h ts (j + c)) ≡ length (entriesBefore s h ts j) + length (joined (λ i. slot s h ts (j + i)) c)
+  unfolding entriesBefore
+  before-add j c = ap length (joined-add (slot s h ts) j c) ∙ length-append (joined (slot s h ts) j) (joined (λ i. slot s h ts (j + i)) c)
+
   pub before-more : (k : ℕ) → length (entriesBefore s h ts (k + 1)) ≡ length (entriesBefore s h ts k) + length (slot s h ts k)
-  unfolding entriesBefore joined
-  before-more k = rw add-one (length-append (joined (slot s h ts) k) (slot s h ts k))
+  unfolding entriesBefore
+  before-more = length-more (slot s h ts)
 
   -- no more than all
   pub before-le : (k : ℕ) → k ≤ 2 * partitions (s .m) → length (entriesBefore s h ts k) ≤ length (entries s h ts)
-  unfolding entries entriesBefore
+  unfolding entries
   before-le k l =
-      let f = slot s h ts in
       let r = 2 * partitions (s .m) - k in
       let e : 2 * partitions (s .m) ≡ k + r = omega arith in
-      rw (e, joined-add f k r) (omega (arith, length-append (joined f k) (joined (λ i. f (k + i)) r)))
+      rw e (omega (arith, before-add k r))
 
-  -- "The word of a slot is the number of entries before it; the last word of a half is that half's total."
-  pub half-word : (k : ℕ) → k ≤ 2 * partitions (s .m) → getD (directoryHalf s h ts) k 0 ≡ length (entriesBefore s h ts k)
-  unfolding directoryHalf halfLength
-  half-word k l = getD-upTo (λ j. length (entriesBefore s h ts j)) (2 * partitions (s .m) + 1) k 0 (omega arith)
+-- ---- a half of the directory, from the word `base` on, with its arena
 
-  -- the entries of slot k are the part of the arena between the entries before it and those before the next
-  pub slot-part : (n k : ℕ) → k < 2 * partitions (s .m)
-      → take (entryWords * length (entriesBefore s h ts (k + 1)) - entryWords * length (entriesBefore s h ts k))
-      (drop (entryWords * length (entriesBefore s h ts k)) (arena s h ts n))
-      ≡ words (slot s h ts k)
-  unfolding arena padded entries entriesBefore joined
-  slot-part n k l =
-      let f = slot s h ts in
-      let r = 2 * partitions (s .m) - suc k in
-      let e : 2 * partitions (s .m) ≡ suc k + r = omega arith in
-      let later = joined (λ i. f (suc k + i)) r in
-      let zeros = replicate {A = ℕ} (n - length (words (joined f (2 * partitions (s .m))))) 0 in
-      let split : joined f (2 * partitions (s .m)) ≡ (joined f k ++ f k) ++ later = ap (joined f) e ∙ joined-add f (suc k) r in
-      let cut : words (joined f (2 * partitions (s .m))) ++ zeros ≡ words (joined f k) ++ (words (f k) ++ (words later ++ zeros)) =
-      ap (λ (us : List Trip). words us ++ zeros) split ∙ rw (words-append, words-append, append-assoc, append-assoc) in
-      let from = entryWords * length (joined f k) in
-      let more : length (words (f k)) ≡ entryWords * length (joined f (k + 1)) - from =
-      words-length (f k) ∙ rw (before-more k, words-add) (omega arith) in
-      rw (cut, drop-at (words (joined f k)) (words (f k) ++ (words later ++ zeros)) from (words-length (joined f k)))
-      (take-at (words (f k)) (words later ++ zeros) _ more)
+pub record LaidFrom (s : Scale) (h : Half) (ts : List Trip) (d : List ℕ) (base : ℕ) (l : List ℕ) : Type 0 where
+  pub word : (k : ℕ) → k ≤ 2 * partitions (s .m) → getD d (base + k) 0 ≡ length (entriesBefore s h ts k)
+  pub inside : base + 2 * partitions (s .m) < length d
+  pub zeros : List ℕ
+  pub stored : l ≡ words (entries s h ts) ++ zeros
+
+module _ {s : Scale} {h : Half} {ts : List Trip} {d : List ℕ} {base : ℕ} {l : List ℕ} (w : LaidFrom s h ts d base l) where
+  -- the slots j .. j + c - 1: between the word of the first and the word after the last, which is no less, stand their entries
+  module _ (j c : ℕ) (in-half : j + c ≤ 2 * partitions (s .m)) where
+    pub slots-rise : getD d (base + j) 0 ≤ getD d (base + (j + c)) 0
+    slots-rise = omega (arith, w .word j (omega arith), w .word (j + c) in-half, before-add s h ts j c)
+
+    pub slots-room : entryWords * getD d (base + (j + c)) 0 ≤ length l
+    slots-room =
+        rw (w .word (j + c) in-half, w .stored, length-append)
+        (omega (arith, words-le (before-le s h ts (j + c) in-half), words-length (entries s h ts)))
+
+    pub slots-part : take (entryWords * getD d (base + (j + c)) 0 - entryWords * getD d (base + j) 0) (drop (entryWords * getD d (base + j) 0) l)
+        ≡ words (joined (λ i. slot s h ts (j + i)) c)
+    unfolding entriesBefore entries
+    slots-part =
+        rw (w .word j (omega arith), w .word (j + c) in-half, w .stored) (words-joined (slot s h ts) (2 * partitions (s .m)) j c (w .zeros) in-half)
+
+  -- one slot
+  module _ (k : ℕ) (in-half : k < 2 * partitions (s .m)) where
+    next : base + k + 1 ≡ base + (k + 1)
+    next = omega arith
+
+    pub next-word : getD d (base + k + 1) 0 ≡ getD d (base + k) 0 + length (slot s h ts k)
+    next-word = rw (next, w .word (k + 1) (omega arith), w .word k (omega arith)) (before-more s h ts k)
+
+    pub slot-room : entryWords * getD d (base + k + 1) 0 ≤ length l
+    slot-room = rw next (slots-room k 1 (omega arith))
+
+    pub slot-part : take (entryWords * getD d (base + k + 1) 0 - entryWords * getD d (base + k) 0) (drop (entryWords * getD d (base + k) 0) l)
+        ≡ words (slot s h ts k)
+    unfolding joined
+    slot-part = let none : k + 0 ≡ k = omega arith in rw next (rw none at (slots-part k 1 (omega arith)))
 
 -- ---- an index
 
@@ -106,20 +125,36 @@ module _ (s : Scale) (x : Index) (w : Indexed s x) where
   unfolding layout lengthsOf
   replicas-are = ap (λ (y : Index). y .replicas) (w .words-are)
 
-  -- the words of the two halves
-  pub originals-word : (k : ℕ) → k ≤ 2 * partitions (s .m) → getD (x .directory) k 0 ≡ length (entriesBefore s Originals (tableOf s x) k)
-  unfolding halfLength
-  originals-word k l =
-      let o = directoryHalf s Originals (tableOf s x) in
-      ap (λ (d : List ℕ). getD d k 0) directory-are
-      ∙ List·getD-append o (directoryHalf s Replicas (tableOf s x)) 0 k (rw directoryHalf-length (omega arith))
-      ∙ half-word s Originals (tableOf s x) k l
+  pub directory-long : length (x .directory) ≡ directoryLength (s .m)
+  unfolding lengthsOf
+  directory-long = w .table .directory
 
-  pub replicas-word : (k : ℕ) → k ≤ 2 * partitions (s .m) → getD (x .directory) (halfLength (s .m) + k) 0 ≡ length (entriesBefore s Replicas (tableOf s x) k)
-  replicas-word k l =
+  -- its two halves
+  pub originals-laid : LaidFrom s Originals (tableOf s x) (x .directory) 0 (x .originals)
+  unfolding arena padded halfLength directoryLength
+  originals-laid =
       let o = directoryHalf s Originals (tableOf s x) in
       let r = directoryHalf s Replicas (tableOf s x) in
-      ap (λ (d : List ℕ). getD d (halfLength (s .m) + k) 0) directory-are
-      ∙ ap (λ (n : ℕ). getD (o ++ r) (n + k) 0) (sym (directoryHalf-length s Originals (tableOf s x)))
-      ∙ getD-append-add o r k 0
-      ∙ half-word s Replicas (tableOf s x) k l
+      record {
+        word = λ k l.
+            let first : 0 + k ≡ k = omega arith in
+            ap₂ (λ (d : List ℕ) (i : ℕ). getD d i 0) directory-are first ∙ List·getD-append o r 0 k (rw directoryHalf-length (omega arith))
+            ∙ half-word s Originals (tableOf s x) k l;
+        inside = omega (arith, directory-long);
+        zeros = _;
+        stored = originals-are;
+      }
+
+  pub replicas-laid : LaidFrom s Replicas (tableOf s x) (x .directory) (halfLength (s .m)) (x .replicas)
+  unfolding arena padded halfLength directoryLength
+  replicas-laid =
+      let o = directoryHalf s Originals (tableOf s x) in
+      let r = directoryHalf s Replicas (tableOf s x) in
+      record {
+        word = λ k l.
+            ap₂ (λ (d : List ℕ) (n : ℕ). getD d (n + k) 0) directory-are (sym (directoryHalf-length s Originals (tableOf s x)))
+            ∙ getD-append-add o r k 0 ∙ half-word s Replicas (tableOf s x) k l;
+        inside = omega (arith, directory-long);
+        zeros = _;
+        stored = replicas-are;
+      }

@@ -1,5 +1,6 @@
 // What the index is: its halves and subdivisions, the words of an entry, and what a call may answer.
 ghost use mathlib.Core.Path.{_≡_};
+ghost use Rattle.layout.specs.Stored.{subdivisionOf};
 ghost use Rattle.layout.specs.Words.{entryWords};
 ghost use Rattle.layout.specs.Refusals.{mostPartitions, refusalNumber, numberOf, detailOf};
 
@@ -55,6 +56,26 @@ pub fn most_partitions() -> u32
     ensures { λ r. ⌜ r ≡ mostPartitions ⌝ }
 {
     MOST_PARTITIONS
+}
+
+// The subdivision of a half's "in" or "aft" entries.
+pub fn subdivision_of(half: Half, aft: bool) -> Subdivision
+    ensures { λ r. ⌜ r ≡ subdivisionOf half aft ⌝ }
+{
+    match half {
+        Half::Originals => {
+            if aft {
+                return Subdivision::OAft;
+            }
+            Subdivision::OIn
+        }
+        Half::Replicas => {
+            if aft {
+                return Subdivision::RAft;
+            }
+            Subdivision::RIn
+        }
+    }
 }
 
 // The paper's number of a refusal.

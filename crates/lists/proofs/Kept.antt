@@ -1,13 +1,13 @@
--- Laws of `keep`: of lists joined, of a list that passes whole, and of one more value.
+-- Laws of `keep`: of lists joined, of a list that passes whole, of one of which nothing passes, and of one more value.
 use mathlib.Core.Path.{_≡_, refl, ap, ap₂, _∙_}
 use mathlib.Core.Bool.{Bool, true, false}
 use mathlib.Core.List.{List, [], _∷_, _++_, append-nil, List·Memᴰ as Mem, List·Memᴰ·head as here, List·Memᴰ·tail as there}
-use Prim.Native.Nat.{ℕ, zero, suc, _+_, _≤_}
+use Prim.Native.Nat.{ℕ, zero, suc, _+_, _≤_, _<_}
 use native.Mathlib.Numerals.{add-one}
 use native.Mathlib.Decide.{le-ind}
 use native.Mathlib.Omega.{arith}
 use lib.Dec.{T}
-use lib.ListN.{length, length-append}
+use lib.ListN.{length, getD, length-append}
 use Rattle.lists.specs.Lists.{consIf, keep, joined, upTo}
 use Rattle.lists.proofs.Members.{keep-length}
 use Rattle.lists.proofs.Upto.{length-upTo}
@@ -36,6 +36,12 @@ module _ {A : Type 0} (p : A → Bool) where
       go : (b : Bool) → T b → keep p l ≡ l → consIf b x (keep p l) ≡ x ∷ l
       go true t e = ap (λ (z : List A). x ∷ z) e
       go false t e = absurd t
+
+  -- where no value passes, nothing is kept
+  pub keep-none : (d : A) (l : List A) → ((j : ℕ) → j < length l → p (getD l j d) ≡ false) → keep p l ≡ []
+  unfolding keep
+  keep-none d [] h = refl
+  keep-none d (x ∷ l) h = rw (h 0 (omega arith)) (keep-none d l (λ j k. h (suc j) (omega arith)))
 
   -- tests that agree on every member keep the same
   pub keep-ext : (r : A → Bool) (l : List A) → ((z : A) → Mem z l → p z ≡ r z) → keep p l ≡ keep r l

@@ -1,12 +1,11 @@
 -- A list in strict order whose members are all in another such list: it is no longer, and it is the other where it is as long.
 use mathlib.Core.Path.{_≡_, refl, sym, ap₂, subst, _∙_}
 use mathlib.Core.Bool.{Bool}
-use mathlib.Core.List.{List, _∷_, _++_, List·Memᴰ as Mem, List·Memᴰ·head as here, List·Memᴰ·tail as there, List·Memᴰ·not-nil as not-nil}
-use Prim.Native.Nat.{ℕ, zero, suc, _≤_, _<_}
+use mathlib.Core.List.{List, _∷_, List·Memᴰ as Mem, List·Memᴰ·head as here, List·Memᴰ·tail as there, List·Memᴰ·not-nil as not-nil}
+use Prim.Native.Nat.{_≤_}
 use native.Mathlib.Omega.{arith}
 use lib.Dec.{T}
 use lib.ListN.{length}
-use Rattle.lists.specs.Lists.{joined}
 use Rattle.lists.proofs.Members.{In, none, more}
 use Rattle.lists.proofs.Sorting.{Sorted, StrictOrder}
 
@@ -47,9 +46,3 @@ module _ {A : Type 0} {lt : A → A → Bool} (o : StrictOrder lt) where
     | here e ↦ ap₂ _∷_ e (as-long s t (same-head e a h) (omega arith))
     | there n ↦ let i = no-longer (more {x = x} {l = l} a s) t (later-head n a b h) in absurd (omega arith)
   ]
-
--- lists that are the same below n join to the same
-pub joined-ext : {A : Type 0} (f g : ℕ → List A) (n : ℕ) → ((k : ℕ) → k < n → f k ≡ g k) → joined f n ≡ joined g n
-unfolding joined
-joined-ext f g zero h = refl
-joined-ext f g (suc n) h = ap₂ _++_ (joined-ext f g n (λ k l. h k (omega arith))) (h n (omega arith))

@@ -2,22 +2,23 @@
 -- f 0 .. f (n - 1) pass, and are cut into these.
 use mathlib.Core.Path.{_≡_, refl, sym, ap, ap₂, _∙_}
 use mathlib.Core.Bool.{true, _&&_}
-use mathlib.Core.List.{List, [], _∷_, _++_, append-assoc}
+use mathlib.Core.List.{List, [], _∷_, _++_}
 use Prim.Native.Nat.{ℕ, zero, suc, _+_, _-_, _*_, _%_, _≤_, _<_}
 use native.Mathlib.Omega.{arith}
 use native.Mathlib.Numerals.{add-one}
 use native.Mathlib.Nat.{mul-zero}
 use native.Mathlib.Decide.{le-ind}
 use lib.Dec.{T, leb, eqb, leb→le, le→leb, eqb→eq}
-use lib.ListN.{length, getD, take, drop, replicate, length-append, length-drop, take-append-drop}
-use lib.Seq.{length-take-le, take-at, drop-at, take-add, ext-getD}
+use lib.ListN.{length, getD, take, drop, replicate, length-drop, take-append-drop}
+use lib.Seq.{length-take-le, drop-at, take-add, ext-getD}
 use Rattle.lists.specs.Lists.{joined, upTo, padded}
 use Rattle.lists.proofs.Tests.{of-and, to-and, to-T}
-use Rattle.lists.proofs.Joined.{joined-add}
+use Rattle.lists.proofs.Joined.{length-more}
 use Rattle.lists.proofs.Upto.{length-upTo, getD-upTo}
 use Rattle.trip.specs.declared.Trip.{Trip}
 use Rattle.layout.specs.Words.{entryWords, words, rows}
 use Rattle.layout.proofs.Rows.{rows-words, words-rows, words-append, words-length, words-le}
+use Rattle.layout.proofs.RowParts.{words-joined}
 use Rattle.layout.proofs.Local.{Laid, laid-room}
 use Rattle.verify.specs.Passing.{rising, blank}
 use Rattle.verify.specs.Local.{total, halfOk, SlotIn, slotWords, slotAt, tripsOf}
@@ -161,25 +162,9 @@ slot-in dir arena n l e k h =
 
 -- ---- words that hold lists
 
-module _ {A : Type 0} (f : ℕ → List A) where
-  none-before : length (joined f 0) ≡ 0
-  unfolding joined
-  none-before = refl
-
-  more-before : (k : ℕ) → length (joined f (k + 1)) ≡ length (joined f k) + length (f k)
-  unfolding joined
-  more-before k = rw (add-one, length-append) refl
-
-  -- the slots before slot k, slot k, and those after it
-  split : (n k : ℕ) → k < n → joined f n ≡ joined f k ++ (f k ++ joined (λ i. f (suc k + i)) (n - suc k))
-  unfolding joined
-  split n k h =
-      let e : suc k + (n - suc k) ≡ n = omega arith in
-      ap (joined f) (sym e) ∙ joined-add f (suc k) (n - suc k) ∙ append-assoc (joined f k) (f k) _
-
-part-words : (a b l : ℕ) → b ≡ a + l → entryWords * b - entryWords * a ≡ entryWords * l
-unfolding entryWords
-part-words a b l e = omega arith
+none-before : {A : Type 0} (f : ℕ → List A) → length (joined f 0) ≡ 0
+unfolding joined
+none-before f = refl
 
 module _ (dir arena : List ℕ) (f : ℕ → List Trip) (n : ℕ) (w : Laid dir arena f n) where
   pub laid-length : length dir ≡ n + 1
@@ -195,7 +180,7 @@ module _ (dir arena : List ℕ) (f : ℕ → List Trip) (n : ℕ) (w : Laid dir 
       let l : length ws ≡ entryWords * length (joined f n) = words-length (joined f n) in
       record {
         first = laid-count 0 (omega arith) ∙ none-before f;
-        up = λ k h. rw (laid-count k (omega arith), laid-count (k + 1) (omega arith)) (omega (arith, more-before f k));
+        up = λ k h. rw (laid-count k (omega arith), laid-count (k + 1) (omega arith)) (omega (arith, length-more f k));
         fits = rw (laid-count n (omega arith)) (laid-room dir arena f n w);
         rest = rw (laid-count n (omega arith), ← l)
             (ap (drop (length ws)) (w .stored) ∙ drop-at ws (replicate (length arena - length ws) 0) (length ws) refl);
@@ -203,23 +188,12 @@ module _ (dir arena : List ℕ) (f : ℕ → List Trip) (n : ℕ) (w : Laid dir 
 
   -- cut at its slots, each list comes back
   pub laid-at : (k : ℕ) → k < n → slotAt dir arena k ≡ f k
-  unfolding slotAt slotWords padded
+  unfolding slotAt slotWords padded joined
   laid-at k h =
       let zeros : List ℕ = replicate (length arena - length (words (joined f n))) 0 in
-      let later = joined (λ i. f (suc k + i)) (n - suc k) in
-      let a = entryWords * getD dir k 0 in
-      let b = entryWords * getD dir (k + 1) 0 in
-      let parts : words (joined f n) ≡ words (joined f k) ++ (words (f k) ++ words later) =
-      ap words (split f n k h) ∙ words-append (joined f k) (f k ++ later)
-      ∙ ap (λ (ws : List ℕ). words (joined f k) ++ ws) (words-append (f k) later)
-      in
-      let whole : arena ≡ words (joined f k) ++ (words (f k) ++ (words later ++ zeros)) =
-      w .stored ∙ ap (λ (ws : List ℕ). ws ++ zeros) parts ∙ simp append-assoc
-      in
-      let low : length (words (joined f k)) ≡ a = rw (laid-count k (omega arith)) (words-length (joined f k)) in
-      let next = laid-count (k + 1) (omega arith) ∙ more-before f k in
-      let size : length (words (f k)) ≡ b - a =
-      words-length (f k) ∙ sym (part-words (getD dir k 0) (getD dir (k + 1) 0) (length (f k)) (omega (arith, next, laid-count k (omega arith))))
-      in
-      let tail : drop a arena ≡ words (f k) ++ (words later ++ zeros) = ap (drop a) whole ∙ drop-at (words (joined f k)) _ a low in
-      ap rows (ap (take (b - a)) tail ∙ take-at (words (f k)) (words later ++ zeros) (b - a) size) ∙ rows-words (f k)
+      let a = entryWords * length (joined f k) in
+      let b = entryWords * length (joined f (k + 1)) in
+      let part : List ℕ → List ℕ = λ l. take (b - a) (drop a l) in
+      let none : k + 0 ≡ k = omega arith in
+      rw (laid-count k (omega arith), laid-count (k + 1) (omega arith))
+      (ap rows (ap part (w .stored) ∙ words-joined f n k 1 zeros (omega arith)) ∙ rows-words (f (k + 0)) ∙ ap f none)

@@ -10,7 +10,7 @@ use lib.Seq.{length-take-le, take-all}
 use Rattle.lists.specs.Lists.{joined, sumOver}
 use Rattle.lists.proofs.Tests.{of-and, to-and, to-T}
 use Rattle.lists.proofs.Members.{In, of-joined, to-joined}
-use Rattle.lists.proofs.Sublists.{joined-ext}
+use Rattle.lists.proofs.Joined.{joined-ext}
 use Rattle.ruler.specs.declared.Ruler.{Ruler}
 use Rattle.ruler.specs.Ruler.{Scale, mostTrips, deepest, inBounds, scale, scaleOf}
 use Rattle.ruler.proofs.Fair.{Fair}

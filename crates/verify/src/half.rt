@@ -1,10 +1,10 @@
 // One half of the directory with its arena: its counts, its tail, and the entries of its slots.
 use crate::partition::level_of;
 use crate::partition::stands;
-use crate::partition::subdivision_of;
 use layout::ENTRY_WORDS;
 use layout::Half;
 use layout::Subdivision;
+use layout::subdivision_of;
 use ruler::Ruler;
 use ruler::power;
 use store::entry::precedes;
@@ -18,18 +18,12 @@ ghost use Rattle.layout.specs.Words.{entryWords, rows, order, partitions, halfL
 ghost use Rattle.verify.specs.Passing.{inRow, rising, blank};
 ghost use Rattle.verify.specs.Local.{total, halfOk, SlotIn, slotAt, standsAt, slotOk, slotsOk};
 
-pub fn wide(word: u32) -> usize
-    ensures { λ r. ⌜ r ≡ word ⌝ }
-{
-    word as usize
-}
-
 // The last word of a half: as many entries as it has.
 pub fn entries_of(dir: &[u32]) -> usize
     requires { ⌜ 0 < length (now dir) ⌝ }
     ensures { λ r. ⌜ r ≡ total (now (dir .entry)) ⌝ }
 {
-    wide(dir[dir.len() - 1])
+    dir[dir.len() - 1] as usize
 }
 
 // The words that the entries of a half take.
@@ -89,7 +83,7 @@ pub fn offset(dir: &[u32], k: usize) -> usize
     requires { ⌜ k < length (now dir) ⌝ }
     ensures { λ r. ⌜ r ≡ entryWords * getD (now (dir .entry)) k 0 ⌝ }
 {
-    ENTRY_WORDS * wide(dir[k])
+    ENTRY_WORDS * dir[k] as usize
 }
 
 // Whether each entry of a part may stand in this subdivision of partition i of a level, and comes after the one before it.

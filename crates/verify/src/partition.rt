@@ -1,5 +1,4 @@
 // One trip in one partition: whether it may stand there.
-use layout::Half;
 use layout::Subdivision;
 use ruler::Ruler;
 use ruler::Time;
@@ -10,7 +9,7 @@ ghost use mathlib.Core.Path.{_≡_};
 ghost use mathlib.Core.Bool.{true};
 ghost use Prim.Native.Nat.{_^_, _<_, _≤_};
 ghost use Rattle.ruler.specs.Ruler.{deepest, inBounds, scale, cellUp};
-ghost use Rattle.layout.specs.Stored.{within, holds, holdsTrip, isOf, subdivisionOf};
+ghost use Rattle.layout.specs.Stored.{within, holds, holdsTrip, isOf};
 ghost use Rattle.layout.specs.Words.{levelOf};
 ghost use Rattle.verify.specs.Local.{fitsTest, standsAt};
 
@@ -108,24 +107,4 @@ pub fn level_of(m: u32, p: u32) -> u32
         level -= 1;
     }
     0
-}
-
-// The subdivision of a half's "in" or "aft" entries.
-pub fn subdivision_of(half: Half, aft: bool) -> Subdivision
-    ensures { λ r. ⌜ r ≡ subdivisionOf half aft ⌝ }
-{
-    match half {
-        Half::Originals => {
-            if aft {
-                return Subdivision::OAft;
-            }
-            Subdivision::OIn
-        }
-        Half::Replicas => {
-            if aft {
-                return Subdivision::RAft;
-            }
-            Subdivision::RIn
-        }
-    }
 }

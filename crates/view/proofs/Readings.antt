@@ -5,7 +5,7 @@ use mathlib.Core.List.{List}
 use Prim.Native.Nat.{ℕ, zero, suc, _+_, _-_, _*_, _^_, _≤_, _<_}
 use native.Mathlib.Omega.{arith}
 use lib.Dec.{leb}
-use lib.ListN.{length, getD, take, drop, length-append}
+use lib.ListN.{length, getD, length-append}
 use borrow.Author.Tests.{leb-true}
 use Rattle.lists.specs.Lists.{joined}
 use Rattle.lists.proofs.Upto.{upTo-ext}
@@ -16,16 +16,15 @@ use Rattle.layout.specs.declared.Half.the-variants.{Originals, Replicas}
 use Rattle.layout.specs.declared.Subdivision.{Subdivision}
 use Rattle.layout.specs.declared.Subdivision.the-variants.{OIn, OAft, RIn, RAft}
 use Rattle.layout.specs.Stored.{partitionsAt}
-use Rattle.layout.specs.Words.{entryWords, words, partitions, halfLength, slotNumber, slotTrips, slot, entriesBefore, entries, arena, Index, lengthsOf}
+use Rattle.layout.specs.Words.{entryWords, words, partitions, halfLength, slotNumber, slotTrips, slot, Index, lengthsOf}
 use Rattle.layout.specs.Refusals.{mostPartitions, tableOf}
 use Rattle.layout.specs.Answers.{halfOf, isAft, levelCount, levelRow, census, runWords, runFrom}
 use Rattle.layout.proofs.Subdivisions.{of-half-and-side}
-use Rattle.layout.proofs.Rows.{words-le, words-length}
+use Rattle.layout.proofs.Rows.{words-length}
 use Rattle.layout.proofs.Indexes.{Indexed}
 use Rattle.layout.proofs.RoomAdded.{entries-most}
-use Rattle.layout.proofs.Reading.{slot-numbered, slot-inside, slots-apart, before-more, before-le, slot-part, originals-are, replicas-are, originals-word, replicas-word}
+use Rattle.layout.proofs.Reading.{slot-numbered, slot-inside, slots-apart, before-more, before-le, LaidFrom, next-word, slot-room, slot-part, originals-laid, replicas-laid}
 use Rattle.view.specs.Directory.{halfFrom, slotAt, arenaOf, everySecond, countOf, rowOf, rowsOf, partOf, Halves, SlotIn}
-use Rattle.view.proofs.Places.{half-fits, slot-fits}
 
 module _ (s : Scale) (x : Index) (w : Indexed s x) where
   -- the table of the index
@@ -35,27 +34,18 @@ module _ (s : Scale) (x : Index) (w : Indexed s x) where
   abbrev dir : List ℕ
   dir = x .directory
 
-  -- the word of a half's slot k, and the next
-  pub word-at : (h : Half) (k : ℕ) → k ≤ 2 * partitions (s .m) → getD dir (halfFrom (s .m) h + k) 0 ≡ length (entriesBefore s h trips k)
+  -- its halves
+  laid : (h : Half) → LaidFrom s h trips dir (halfFrom (s .m) h) (arenaOf h (x .originals) (x .replicas))
   unfolding halfFrom
-  word-at Originals k l = let e : 0 + k ≡ k = omega arith in rw e (originals-word s x w k l)
-  word-at Replicas k l = replicas-word s x w k l
+  laid Originals = originals-laid s x w
+  laid Replicas = replicas-laid s x w
 
-  pub word-after : (h : Half) (k : ℕ) → k < 2 * partitions (s .m)
-      → getD dir (halfFrom (s .m) h + k + 1) 0 ≡ length (entriesBefore s h trips k) + length (slot s h trips k)
-  word-after h k l =
-      let e : halfFrom (s .m) h + k + 1 ≡ halfFrom (s .m) h + (k + 1) = omega arith in
-      rw e (word-at h (k + 1) (omega arith) ∙ before-more s h trips k)
-
-  -- both halves rise
+  -- both rise
   pub halves : s .m ≤ deepest → Halves (s .m) dir
-  unfolding lengthsOf halfLength
+  unfolding halfLength
   halves deep = record {
     deep = deep;
-    rising = λ h. record {
-      inside = omega (arith, half-fits (s .m) h, w .table .directory);
-      rises = λ k l. omega (arith, word-at h k (omega arith), word-after h k (omega arith));
-    };
+    rising = λ h. record { inside = omega (arith, laid h .inside); rises = λ k l. omega (arith, next-word (laid h) k (omega arith)) };
   }
 
   -- ---- the slot of a subdivision of partition i of level L
@@ -67,60 +57,29 @@ module _ (s : Scale) (x : Index) (w : Indexed s x) where
     inside : slotNumber L i (isAft d) < 2 * partitions (s .m)
     inside = slot-inside (s .m) L i (isAft d) deep there
 
-    -- its word and the next
-    slot-word : getD dir (slotAt (s .m) L i d) 0 ≡ length (entriesBefore s (halfOf d) trips (slotNumber L i (isAft d)))
-    unfolding slotAt
-    slot-word = word-at (halfOf d) (slotNumber L i (isAft d)) (omega (arith, inside))
-
-    slot-next : getD dir (slotAt (s .m) L i d + 1) 0 ≡ length (entriesBefore s (halfOf d) trips (slotNumber L i (isAft d) + 1))
-    unfolding slotAt
-    slot-next =
-        let h = halfFrom (s .m) (halfOf d) in
-        let k = slotNumber L i (isAft d) in
-        let e : h + k + 1 ≡ h + (k + 1) = omega arith in
-        rw e (word-at (halfOf d) (k + 1) (omega (arith, inside)))
-
-    -- the next word less the word is as many as the slot has
+    -- the next word less its word is as many as the slot has
     pub slot-count : getD dir (slotAt (s .m) L i d + 1) 0 - getD dir (slotAt (s .m) L i d) 0 ≡ length (slotTrips s d L i trips)
-    slot-count =
-        let k = slotNumber L i (isAft d) in
-        omega (arith, slot-word, slot-next, before-more s (halfOf d) trips k, ap length slot-is)
+    unfolding slotAt
+    slot-count = omega (arith, next-word (laid (halfOf d)) (slotNumber L i (isAft d)) inside, ap length slot-is)
 
     -- the run
     pub run-from-read : entryWords * getD dir (slotAt (s .m) L i d) 0 ≡ runFrom s trips L i d
-    unfolding runFrom
-    run-from-read = ap (λ (n : ℕ). entryWords * n) slot-word
-
-    arena-is : (h : Half) → arenaOf h (x .originals) (x .replicas) ≡ arena s h trips (length (arenaOf h (x .originals) (x .replicas)))
-    arena-is Originals = originals-are s x w
-    arena-is Replicas = replicas-are s x w
-
-    arena-long : (h : Half) → entryWords * length (entries s h trips) ≤ length (arenaOf h (x .originals) (x .replicas))
-    unfolding lengthsOf
-    arena-long Originals = w .table .room .for-originals
-    arena-long Replicas = w .table .room .for-replicas
+    unfolding runFrom slotAt
+    run-from-read = ap (λ (n : ℕ). entryWords * n) (laid (halfOf d) .word (slotNumber L i (isAft d)) (omega (arith, inside)))
 
     pub run-read : partOf dir (arenaOf (halfOf d) (x .originals) (x .replicas)) (slotAt (s .m) L i d) ≡ runWords s trips L i d
-    unfolding partOf runWords
-    run-read =
-        let h = halfOf d in
-        let k = slotNumber L i (isAft d) in
-        let a = arenaOf h (x .originals) (x .replicas) in
-        let from = entryWords * length (entriesBefore s h trips k) in
-        let to = entryWords * length (entriesBefore s h trips (k + 1)) in
-        let part : List ℕ → List ℕ = λ l. take (to - from) (drop from l) in
-        rw (slot-word, slot-next) (ap part (arena-is h) ∙ slot-part s h trips (length a) k inside ∙ ap words slot-is)
+    unfolding partOf runWords slotAt
+    run-read = slot-part (laid (halfOf d)) (slotNumber L i (isAft d)) inside ∙ ap words slot-is
 
     pub slot-in : SlotIn dir (arenaOf (halfOf d) (x .originals) (x .replicas)) (slotAt (s .m) L i d)
-    unfolding lengthsOf
+    unfolding slotAt
     slot-in =
         let h = halfOf d in
         let k = slotNumber L i (isAft d) in
-        let few = words-le (before-le s h trips (k + 1) (omega (arith, inside))) in
         record {
-          inside = omega (arith, slot-fits (s .m) L i d deep there, w .table .directory);
-          low = omega (arith, slot-word, slot-next, before-more s h trips k);
-          high = rw slot-next (omega (arith, few, arena-long h));
+          inside = omega (arith, inside, laid h .inside);
+          low = omega (arith, next-word (laid h) k inside);
+          high = slot-room (laid h) k inside;
         }
 
     -- a run ends within the entries of the most trips in the most partitions each

@@ -2,7 +2,6 @@
 use crate::LEVELS;
 use crate::SUBDIVISIONS;
 use crate::slots::slot_at;
-use crate::slots::wide;
 use layout::Subdivision;
 use ruler::power;
 ghost use mathlib.Core.Path.{_≡_};
@@ -29,7 +28,7 @@ fn level_count(directory: &[u32], m: u32, level: u32, d: Subdivision) -> u32
     requires { ⌜ Halves m (now directory) × (level ≤ m) ⌝ }
     ensures { λ r. ⌜ r ≡ countOf (now (directory .entry)) m level d ⌝ }
 {
-    every_second(directory, slot_at(m, level, 0, d), wide(power(level)))
+    every_second(directory, slot_at(m, level, 0, d), power(level) as usize)
 }
 
 // The entries of the four subdivisions of a level: none of a level above m.

@@ -13,7 +13,6 @@ use slots::half_of;
 use slots::half_part;
 use slots::numbered;
 use slots::slot_at;
-use slots::wide;
 use verify::check;
 ghost use mathlib.Core.Path.{_≡_};
 ghost use mathlib.Core.Bool.{true};
@@ -158,7 +157,7 @@ pub fn run_from(
     match outcome {
         Outcome::Accepted => {
             let at = slot_at(numbers.m, level, partition, numbered(subdivision));
-            ENTRY_WORDS * wide(directory[at])
+            ENTRY_WORDS * directory[at] as usize
         }
         Outcome::Refused {
             refusal: _,

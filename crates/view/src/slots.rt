@@ -10,12 +10,6 @@ ghost use Rattle.ruler.specs.Ruler.{deepest};
 ghost use Rattle.layout.specs.Answers.{halfOf, isAft, subdivisionNumbered};
 ghost use Rattle.view.specs.Directory.{halfFrom, slotAt, arenaOf, partOf, SlotIn};
 
-pub fn wide(word: u32) -> usize
-    ensures { λ r. ⌜ r ≡ word ⌝ }
-{
-    word as usize
-}
-
 // The subdivision with a number of 0 to 3.
 pub fn numbered(number: u32) -> Subdivision
     ensures { λ r. ⌜ r ≡ subdivisionNumbered number ⌝ }
@@ -57,7 +51,7 @@ fn half_from(m: u32, half: Half) -> usize
 {
     match half {
         Half::Originals => 0,
-        Half::Replicas => wide(2 * (power(m + 1) - 1) + 1),
+        Half::Replicas => (2 * (power(m + 1) - 1) + 1) as usize,
     }
 }
 
@@ -66,7 +60,7 @@ pub fn slot_at(m: u32, level: u32, i: u32, d: Subdivision) -> usize
     requires { ⌜ (m ≤ deepest) × (level ≤ m) × (i < 2 ^ level) ⌝ }
     ensures { λ r. ⌜ r ≡ slotAt m level i d ⌝ }
 {
-    half_from(m, half_of(d)) + wide(slot_number(level, i, is_aft(d)))
+    half_from(m, half_of(d)) + slot_number(level, i, is_aft(d)) as usize
 }
 
 // The part of an arena that the entries of a slot have.
@@ -74,8 +68,8 @@ fn slot_part<'a>(directory: &[u32], arena: &'a [u32], at: usize) -> &'a [u32]
     requires { ⌜ SlotIn (now directory) (now arena) at ⌝ }
     ensures { λ r. ⌜ now r ≡ partOf (now (directory .entry)) (now (arena .entry)) at ⌝ }
 {
-    let from = ENTRY_WORDS * wide(directory[at]);
-    let to = ENTRY_WORDS * wide(directory[at + 1]);
+    let from = ENTRY_WORDS * directory[at] as usize;
+    let to = ENTRY_WORDS * directory[at + 1] as usize;
     &arena[from..to]
 }
 

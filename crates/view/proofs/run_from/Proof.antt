@@ -24,8 +24,8 @@ slot-at-requires c κs =
     let o = c .before .before .before .run-outcome .ensures in
     slot-named (a .numbers) x (a .level) (a .partition) (a .subdivision) _ o (c .before .enum-told .given .1)
 
-mul-wide : tie.Need-mul-wide
-mul-wide c =
+mul-result : tie.Need-mul-result
+mul-result c =
     let a = c .before .before .before .before .before .before .before .before .args in
     let x = index (a .directory .now) (a .originals .now) (a .replicas .now) in
     let o = c .before .before .before .before .run-outcome .ensures in
@@ -34,8 +34,8 @@ mul-wide c =
     let at = c .slot-at .ensures in
     omega (arith, few-at (a .numbers) x (a .level) (a .partition) (a .subdivision) _ o accepted _ d _ at)
 
-shared-slice-read-wide : tie.Need-shared-slice-read-wide
-shared-slice-read-wide c =
+shared-slice-read-result : tie.Need-shared-slice-read-result
+shared-slice-read-result c =
     let a = c .before .before .before .before .before .before .before .before .before .args in
     let x = index (a .directory .now) (a .originals .now) (a .replicas .now) in
     let o = c .before .before .before .before .before .run-outcome .ensures in
@@ -44,11 +44,11 @@ shared-slice-read-wide c =
     let at = c .before .slot-at .ensures in
     omega (arith, part-in (a .numbers) x (a .level) (a .partition) (a .subdivision) _ o accepted _ d _ at _ refl .inside)
 
-wide-requires : tie.Need-wide-requires
-wide-requires c κs = search needs
+cast-result : tie.Need-cast-result
+cast-result c = omega (arith, c .shared-slice-known4 .given (c .before .slot-at .result))
 
-mul-result : tie.Need-mul-result
-mul-result c = omega (arith, c .wide .ensures, c .before .shared-slice-known4 .given (c .before .before .slot-at .result))
+mul-result-2 : tie.Need-mul-result-2
+mul-result-2 c = omega (arith, c .shared-slice-known4 .given (c .before .slot-at .result))
 
 enum-told-2 : tie.Need-enum-told-2
 enum-told-2 c = search needs
@@ -56,13 +56,13 @@ enum-told-2 c = search needs
 returns : tie.Need-returns
 unfolding entryWords
 returns c =
-    let a = c .before .before .before .before .before .before .before .before .before .before .args in
+    let a = c .before .before .before .before .before .before .before .before .before .args in
     let x = index (a .directory .now) (a .originals .now) (a .replicas .now) in
-    let o = c .before .before .before .before .before .before .run-outcome .ensures in
-    let accepted = c .before .before .before .before .enum-told .given .1 in
-    let d = c .before .before .before .numbered .ensures in
-    let at = c .before .before .slot-at .ensures in
-    rw (c .wide .ensures) (run-from-given (a .numbers) x (a .level) (a .partition) (a .subdivision) _ o accepted _ d _ at)
+    let o = c .before .before .before .before .before .run-outcome .ensures in
+    let accepted = c .before .before .before .enum-told .given .1 in
+    let d = c .before .before .numbered .ensures in
+    let at = c .before .slot-at .ensures in
+    run-from-given (a .numbers) x (a .level) (a .partition) (a .subdivision) _ o accepted _ d _ at
 
 returns-2 : tie.Need-returns-2
 returns-2 c =
@@ -79,10 +79,10 @@ run-from-spec =
     enum-told
     numbered-requires
     slot-at-requires
-    mul-wide
-    shared-slice-read-wide
-    wide-requires
     mul-result
+    shared-slice-read-result
+    cast-result
+    mul-result-2
     enum-told-2
     returns
     returns-2)

@@ -1,5 +1,6 @@
 -- The part between the two words of the directory has the slot's rows, which are in order.
 use Rattle.layout.specs.Words.{entryWords}
+use Rattle.edit.specs.Places.{subdivisionAt}
 use Rattle.edit.proofs.OneSlot.{PartWords, part-words, part-ordered, part-place}
 use native.Mathlib.Omega.{arith}
 use borrow.Author.Needs.{needs}
@@ -62,22 +63,22 @@ part-find-place-end : tie.Need-part-find-place-end
 unfolding entryWords
 part-find-place-end c = omega (arith, in-words (c .before .before .before .before))
 
-subdivision-at-requires : tie.Need-subdivision-at-requires
-subdivision-at-requires c κs = search needs
+subdivision-of-requires : tie.Need-subdivision-of-requires
+subdivision-of-requires c κs = search needs
 
 find-place-requires : tie.Need-find-place-requires
-unfolding entryWords
+unfolding entryWords subdivisionAt
 find-place-requires c κs =
     let s = c .before .before .before .before .before .before in
-    part-ordered (s .args .dir .now) (s .args .arena .now) (s .pre .0) (s .args .half) (s .args .slot) (s .pre .1) (c .subdivision-at .result)
-    (c .subdivision-at .ensures)
+    part-ordered (s .args .dir .now) (s .args .arena .now) (s .pre .0) (s .args .half) (s .args .slot) (s .pre .1) (c .subdivision-of .result)
+    (c .subdivision-of .ensures)
 
 returns : tie.Need-returns
-unfolding entryWords
+unfolding entryWords subdivisionAt
 returns c = λ ls o.
     let a = c .before .before .before .before .before .before .before .args in
-    part-place (a .dir .now) (a .arena .now) ls (a .half) (a .slot) o (c .before .subdivision-at .result) (a .t) (c .find-place .result)
-    (c .before .subdivision-at .ensures) (c .find-place .ensures)
+    part-place (a .dir .now) (a .arena .now) ls (a .half) (a .slot) o (c .before .subdivision-of .result) (a .t) (c .find-place .result)
+    (c .before .subdivision-of .ensures) (c .find-place .ensures)
 
 pub place-in-spec : {M : Type 1} → statement M
 place-in-spec =
@@ -96,6 +97,6 @@ place-in-spec =
     sub-find-place
     part-find-place-start
     part-find-place-end
-    subdivision-at-requires
+    subdivision-of-requires
     find-place-requires
     returns)

@@ -1,25 +1,27 @@
 -- Whole entries before the slot.
+use mathlib.Core.Path.{refl}
 use Rattle.layout.specs.Words.{entryWords}
 use native.Mathlib.Omega.{arith}
 use borrow.Author.Needs.{needs}
 use Rattle.verify.proofs.half.offset.Statement.{statement}
 use Rattle.verify.proofs.half.offset.Tie as tie
 
-mul-wide : tie.Need-mul-wide
-mul-wide c = search needs
-
-shared-slice-read-wide : tie.Need-shared-slice-read-wide
-shared-slice-read-wide c = search needs
-
-wide-requires : tie.Need-wide-requires
-wide-requires c κs = search needs
-
 mul-result : tie.Need-mul-result
-mul-result c = omega (arith, c .wide .ensures, c .before .before .shared-slice-known .given (c .before .before .before .args .k))
+mul-result c = search needs
+
+shared-slice-read-result : tie.Need-shared-slice-read-result
+shared-slice-read-result c = search needs
+
+cast-result : tie.Need-cast-result
+cast-result c = omega (arith, c .shared-slice-known .given (c .before .args .k))
+
+mul-result-2 : tie.Need-mul-result-2
+mul-result-2 c = omega (arith, c .shared-slice-known .given (c .before .args .k))
 
 returns : tie.Need-returns
 unfolding entryWords
-returns c = rw (c .wide .ensures)
+returns c = refl
 
 pub offset-spec : {M : Type 1} → statement M
-offset-spec = tie.close (tie.spec mul-wide shared-slice-read-wide wide-requires mul-result returns)
+offset-spec =
+    tie.close (tie.spec mul-result shared-slice-read-result cast-result mul-result-2 returns)

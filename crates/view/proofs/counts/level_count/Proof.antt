@@ -14,23 +14,23 @@ slot-at-requires c κs = (c .before .pre .0 .deep, c .before .pre .1, pow-pos (c
 power-requires : tie.Need-power-requires
 power-requires c κs = search needs
 
-wide-requires : tie.Need-wide-requires
-wide-requires c κs = search needs
+cast-every-second : tie.Need-cast-every-second
+cast-every-second c = search needs
 
 every-second-requires : tie.Need-every-second-requires
 every-second-requires c κs =
-    let a = c .before .before .before .before .args in
-    let p = c .before .before .before .before .pre in
-    rw (c .before .before .slot-at .ensures, c .wide .ensures, c .before .power .ensures) (level-rising (a .m) (a .level) (a .directory .now) (a .d) (p .0) (p .1))
+    let a = c .before .before .before .args in
+    let p = c .before .before .before .pre in
+    rw (c .before .slot-at .ensures, c .power .ensures) (level-rising (a .m) (a .level) (a .directory .now) (a .d) (p .0) (p .1))
 
 returns : tie.Need-returns
 unfolding countOf partitionsAt
 returns c =
-    let a = c .before .before .before .before .before .args in
-    let p = c .before .before .before .before .before .pre in
-    rw (le-leb (a .level) (a .m) (p .1), c .every-second .ensures, c .before .before .before .slot-at .ensures, c .before .wide .ensures, c .before .before .power .ensures)
+    let a = c .before .before .before .before .args in
+    let p = c .before .before .before .before .pre in
+    rw (le-leb (a .level) (a .m) (p .1), c .every-second .ensures, c .before .before .slot-at .ensures, c .before .power .ensures)
 
 pub level-count-spec : {M : Type 1} → statement M
 level-count-spec =
     tie.close
-    (tie.spec slot-at-requires power-requires wide-requires every-second-requires returns)
+    (tie.spec slot-at-requires power-requires cast-every-second every-second-requires returns)

@@ -20,17 +20,17 @@ add-power c = search needs
 power-requires : tie.Need-power-requires
 power-requires c κs = search needs
 
-sub-wide : tie.Need-sub-wide
-sub-wide c = omega (arith, c .power .ensures, pow-pos (c .before .before .before .args .m + 1))
+sub-result : tie.Need-sub-result
+sub-result c = omega (arith, c .power .ensures, pow-pos (c .before .before .before .args .m + 1))
 
-mul-wide : tie.Need-mul-wide
-mul-wide c = omega (arith, c .power .ensures, pow-mono {i = c .before .before .before .args .m + 1} {j = 11} (omega arith))
+mul-result : tie.Need-mul-result
+mul-result c = omega (arith, c .power .ensures, pow-mono {i = c .before .before .before .args .m + 1} {j = 11} (omega arith))
 
-add-wide : tie.Need-add-wide
-add-wide c = omega (arith, c .power .ensures, pow-mono {i = c .before .before .before .args .m + 1} {j = 11} (omega arith))
+add-result : tie.Need-add-result
+add-result c = omega (arith, c .power .ensures, pow-mono {i = c .before .before .before .args .m + 1} {j = 11} (omega arith))
 
-wide-requires : tie.Need-wide-requires
-wide-requires c κs = search needs
+cast-result : tie.Need-cast-result
+cast-result c = search needs
 
 returns : tie.Need-returns
 unfolding halfFrom
@@ -38,7 +38,7 @@ returns c = rw (c .enum-told .given .1)
 
 returns-2 : tie.Need-returns-2
 unfolding halfFrom halfLength partitions
-returns-2 c = rw (c .before .before .enum-told2 .given .1, c .wide .ensures, c .before .power .ensures)
+returns-2 c = rw (c .before .enum-told2 .given .1, c .power .ensures)
 
 pub half-from-spec : {M : Type 1} → statement M
 half-from-spec =
@@ -48,9 +48,9 @@ half-from-spec =
     enum-told-2
     add-power
     power-requires
-    sub-wide
-    mul-wide
-    add-wide
-    wide-requires
+    sub-result
+    mul-result
+    add-result
+    cast-result
     returns
     returns-2)

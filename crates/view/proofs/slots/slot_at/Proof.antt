@@ -1,4 +1,5 @@
 -- The words before the half, then those before the slot.
+use mathlib.Core.Path.{refl}
 use Rattle.view.proofs.Places.{few-words, slot-fits, slot-sum}
 use native.Mathlib.Omega.{arith}
 use borrow.Author.Needs.{needs}
@@ -17,27 +18,27 @@ is-aft-requires c κs = search needs
 slot-number-requires : tie.Need-slot-number-requires
 slot-number-requires c κs = search needs
 
-wide-requires : tie.Need-wide-requires
-wide-requires c κs = search needs
+cast-result : tie.Need-cast-result
+cast-result c = search needs
 
 add-result : tie.Need-add-result
 add-result c =
-    let a = c .before .before .before .before .before .args in
-    let half = c .before .before .before .before .half-of .ensures in
-    let from = c .before .before .before .half-from .ensures in
-    let side = c .before .before .is-aft .ensures in
-    let number = c .before .slot-number .ensures in
-    let e = slot-sum (a .m) (a .level) (a .i) (a .d) half from side (c .before .slot-number .result) number (c .wide .ensures) in
+    let a = c .before .before .before .before .args in
+    let half = c .before .before .before .half-of .ensures in
+    let from = c .before .before .half-from .ensures in
+    let side = c .before .is-aft .ensures in
+    let number = c .slot-number .ensures in
+    let e = slot-sum (a .m) (a .level) (a .i) (a .d) half from side (c .slot-number .result) number refl in
     omega (arith, e, slot-fits (a .m) (a .level) (a .i) (a .d) (omega arith) (omega arith), few-words (a .m) (omega arith))
 
 returns : tie.Need-returns
 returns c =
-    let a = c .before .before .before .before .before .args in
-    let half = c .before .before .before .before .half-of .ensures in
-    let from = c .before .before .before .half-from .ensures in
-    let side = c .before .before .is-aft .ensures in
-    let number = c .before .slot-number .ensures in
-    slot-sum (a .m) (a .level) (a .i) (a .d) half from side (c .before .slot-number .result) number (c .wide .ensures)
+    let a = c .before .before .before .before .args in
+    let half = c .before .before .before .half-of .ensures in
+    let from = c .before .before .half-from .ensures in
+    let side = c .before .is-aft .ensures in
+    let number = c .slot-number .ensures in
+    slot-sum (a .m) (a .level) (a .i) (a .d) half from side (c .slot-number .result) number refl
 
 pub slot-at-spec : {M : Type 1} → statement M
 slot-at-spec =
@@ -47,6 +48,6 @@ slot-at-spec =
     half-from-requires
     is-aft-requires
     slot-number-requires
-    wide-requires
+    cast-result
     add-result
     returns)

@@ -1,4 +1,6 @@
 -- The part between two words of the directory.
+use mathlib.Core.Path.{refl}
+use Prim.Native.Nat.{_+_}
 use Rattle.layout.specs.Words.{entryWords}
 use Rattle.view.specs.Directory.{partOf}
 use native.Mathlib.Omega.{arith}
@@ -6,34 +8,34 @@ use borrow.Author.Needs.{needs}
 use Rattle.view.proofs.slots.slot_part.Statement.{statement}
 use Rattle.view.proofs.slots.slot_part.Tie as tie
 
-mul-wide : tie.Need-mul-wide
-mul-wide c = search needs
-
-shared-slice-read-wide : tie.Need-shared-slice-read-wide
-shared-slice-read-wide c = search needs
-
-wide-requires : tie.Need-wide-requires
-wide-requires c κs = search needs
-
 mul-from : tie.Need-mul-from
+mul-from c = search needs
+
+shared-slice-read-from : tie.Need-shared-slice-read-from
+shared-slice-read-from c = search needs
+
+cast-from : tie.Need-cast-from
+cast-from c = omega (arith, c .shared-slice-known .given (c .before .args .at))
+
+mul-from-2 : tie.Need-mul-from-2
 unfolding entryWords
-mul-from c = omega arith
+mul-from-2 c = omega arith
 
-add-wide : tie.Need-add-wide
-add-wide c = search needs
-
-mul-wide-2 : tie.Need-mul-wide-2
-mul-wide-2 c = search needs
-
-shared-slice-read-wide-2 : tie.Need-shared-slice-read-wide-2
-shared-slice-read-wide-2 c = search needs
-
-wide-requires-2 : tie.Need-wide-requires-2
-wide-requires-2 c κs = search needs
+add-to : tie.Need-add-to
+add-to c = search needs
 
 mul-to : tie.Need-mul-to
+mul-to c = search needs
+
+shared-slice-read-to : tie.Need-shared-slice-read-to
+shared-slice-read-to c = search needs
+
+cast-to : tie.Need-cast-to
+cast-to c = omega (arith, c .shared-slice-known2 .given (c .before .before .args .at + 1))
+
+mul-to-2 : tie.Need-mul-to-2
 unfolding entryWords
-mul-to c = omega arith
+mul-to-2 c = omega arith
 
 mul-result : tie.Need-mul-result
 unfolding entryWords
@@ -53,21 +55,21 @@ part-result-end c = omega arith
 
 returns : tie.Need-returns
 unfolding entryWords partOf
-returns c = rw (c .before .wide2 .ensures, c .before .before .before .wide .ensures)
+returns c = refl
 
 pub slot-part-spec : {M : Type 1} → statement M
 slot-part-spec =
     tie.close
     (tie.spec
-    mul-wide
-    shared-slice-read-wide
-    wide-requires
     mul-from
-    add-wide
-    mul-wide-2
-    shared-slice-read-wide-2
-    wide-requires-2
+    shared-slice-read-from
+    cast-from
+    mul-from-2
+    add-to
     mul-to
+    shared-slice-read-to
+    cast-to
+    mul-to-2
     mul-result
     sub-result
     part-result-start
