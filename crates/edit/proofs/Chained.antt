@@ -43,9 +43,12 @@ unfolding rowTests timeTests
 row-refused s ts t rest =
     stuck _ _ 0 _ _ (stuck _ _ 0 _ _ (stuck _ _ 0 _ _ (stuck _ _ 0 Accepted rest (λ e. never e))))
 
-pub check-refused : (s : Scale) (x : Index) (rest : Outcome) → isAccepted (checkOutcome s x) ≡ false → checkOutcome s x ≡ indexTests s x rest
+check-refused : (s : Scale) (x : Index) (rest : Outcome) → isAccepted (checkOutcome s x) ≡ false → checkOutcome s x ≡ indexTests s x rest
 unfolding checkOutcome indexTests
 check-refused s x rest = stuck _ _ 0 _ _ (stuck _ _ 0 _ _ (stuck _ _ 0 Accepted rest (λ e. never e)))
+
+refused-first : (s : Scale) (x : Index) (o : Outcome) → o ≡ checkOutcome s x → isAccepted o ≡ false → (rest : Outcome) → o ≡ indexTests s x rest
+refused-first s x o e q rest = e ∙ check-refused s x rest (sym (ap isAccepted e) ∙ q)
 
 pub is-accepted : (o : Outcome) → isAccepted o ≡ true → o ≡ Accepted
 is-accepted o e = of-accepted o (to-T e)
@@ -104,21 +107,17 @@ pub remove-outcome : (s : Scale) (x : Index) (i : ℕ) (b : Bool) → checkOutco
 unfolding removeOutcome
 remove-outcome s x i b good e = passed s x good _ ∙ rw e
 
--- a check that is refused decides each edit
-pub add-unchecked : (s : Scale) (x : Index) (t : Trip) → isAccepted (checkOutcome s x) ≡ false → checkOutcome s x ≡ addOutcome s x t
-unfolding addOutcome
-add-unchecked s x t e = check-refused s x _ e
-
-pub remove-unchecked : (s : Scale) (x : Index) (i : ℕ) → isAccepted (checkOutcome s x) ≡ false → checkOutcome s x ≡ removeOutcome s x i
-unfolding removeOutcome
-remove-unchecked s x i e = check-refused s x _ e
-
 -- ---- the whole of an edit, from its outcome
 
 pub add-refused : (s : Scale) (x : Index) (t : Trip) (o : Outcome) → isAccepted o ≡ false → o ≡ addOutcome s x t → after o x ≡ addOf s x t
 unfolding addOf leaving ifAccepted isAccepted
 add-refused s x t Accepted e q = never e
 add-refused s x t (Refused why d) e q = rw (← q)
+
+-- a check that is refused decides it
+pub add-unchecked : (s : Scale) (x : Index) (t : Trip) (o : Outcome) → o ≡ checkOutcome s x → isAccepted o ≡ false → after o x ≡ addOf s x t
+unfolding addOutcome
+add-unchecked s x t o e q = add-refused s x t o q (refused-first s x o e q _)
 
 pub add-accepted : (s : Scale) (x y : Index) (t : Trip) → addOutcome s x t ≡ Accepted → y ≡ layout s (t ∷ tableOf s x) (lengthsOf x)
     → after Accepted y ≡ addOf s x t
@@ -129,6 +128,10 @@ pub remove-refused : (s : Scale) (x : Index) (i : ℕ) (o : Outcome) → isAccep
 unfolding removeOf leaving ifAccepted isAccepted
 remove-refused s x i Accepted e q = never e
 remove-refused s x i (Refused why d) e q = rw (← q)
+
+pub remove-unchecked : (s : Scale) (x : Index) (i : ℕ) (o : Outcome) → o ≡ checkOutcome s x → isAccepted o ≡ false → after o x ≡ removeOf s x i
+unfolding removeOutcome
+remove-unchecked s x i o e q = remove-refused s x i o q (refused-first s x o e q _)
 
 pub remove-accepted : (s : Scale) (x y : Index) (i : ℕ) → removeOutcome s x i ≡ Accepted → y ≡ layout s (without i (tableOf s x)) (lengthsOf x)
     → after Accepted y ≡ removeOf s x i

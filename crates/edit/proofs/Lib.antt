@@ -7,3 +7,4 @@ pub mod Reading
 pub mod Lent
 pub mod Chained
 pub mod Removed
+pub mod Opening
