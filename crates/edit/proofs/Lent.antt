@@ -9,7 +9,7 @@ use borrow.Rule.Slice.PartMut.{putMid}
 use Rattle.lists.proofs.Tests.{to-T}
 use Rattle.ruler.specs.declared.Ruler.{Ruler}
 use Rattle.ruler.specs.Ruler.{Scale, inBounds, scale}
-use Rattle.ruler.proofs.Fair.{Fair, fair}
+use Rattle.ruler.proofs.Fair.{fair}
 use Rattle.trip.specs.declared.Trip.{Trip}
 use Rattle.layout.specs.declared.Half.{Half}
 use Rattle.layout.specs.declared.Half.the-variants.{Originals, Replicas}

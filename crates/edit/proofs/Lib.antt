@@ -1,5 +1,6 @@
 pub mod Halfway
 pub mod OneSlot
+pub mod Between
 pub mod Grown
 pub mod Shrunk
 pub mod Spotted

@@ -1,34 +1,30 @@
 -- What the code reads of words that are an index: how many trips and replicas, the rows of the trips, and the halves of the directory.
 use mathlib.Core.Path.{_≡_, refl, sym, ap, ap₂, subst, _∙_}
-use mathlib.Core.Bool.{Bool, true, false, cond, not, _||_}
+use mathlib.Core.Bool.{Bool, true, false, cond, _||_}
 use mathlib.Core.List.{List, [], _∷_, _++_, append-nil}
-use Prim.Native.Nat.{ℕ, zero, suc, _+_, _-_, _*_, _/_, _^_, _≤_, _<_}
+use Prim.Native.Nat.{ℕ, suc, _+_, _-_, _*_, _/_, _≤_, _<_}
 use native.Mathlib.Nat.{le-of-suc-le-suc, not-suc-le-zero}
 use native.Mathlib.Decide.{decLt}
 use native.Mathlib.Omega.{arith}
-use lib.Dec.{T, ltb, eqb, eqb→eq}
-use lib.ListN.{length, getD, take, drop, replicate, length-append, List·getD-append, drop-of-length-le}
+use lib.Dec.{ltb, eqb}
+use lib.ListN.{length, getD, take, drop, replicate, List·getD-append, drop-of-length-le}
 use lib.Seq.{take-at, drop-at, take-length, getD-append-add, drop-length, drop-cons, drop-drop}
 use borrow.Rule.Slice.PartMut.{putMid}
 use borrow.Author.Tests.{eqb-true, lt-ltb, le-ltb}
 use Rattle.lists.specs.Lists.{padded}
-use Rattle.lists.proofs.Halving.{at-mem}
 use Rattle.ruler.specs.Ruler.{Scale, mostTrips}
-use Rattle.ruler.proofs.Fair.{Fair}
 use Rattle.trip.specs.declared.Trip.{Trip}
-use Rattle.layout.specs.declared.Half.{Half}
 use Rattle.layout.specs.declared.Half.the-variants.{Originals, Replicas}
-use Rattle.layout.specs.Words.{entryWords, tripAt, words, rows, partitions, halfLength, directoryLength, entries, directoryHalf, Index, Lengths, lengthsOf, layout}
+use Rattle.layout.specs.Words.{entryWords, tripAt, words, rows, partitions, halfLength, directoryLength, entries, directoryHalf, Index, lengthsOf, layout}
 use Rattle.layout.specs.Words as laid
 use Rattle.layout.specs.Refusals.{hasId, tableOf, mostPartitions}
 use Rattle.layout.specs.Calls.{index}
-use Rattle.layout.proofs.Partitions.{Fits}
 use Rattle.layout.proofs.Rows.{words-length, rows-words, getD-rows}
 use Rattle.layout.proofs.Indexes.{Indexed, directoryHalf-length, last-word, table-of-layout}
 use Rattle.layout.proofs.RoomAdded.{entries-most}
 use Rattle.store.specs.Ordered.{noTrip}
 use Rattle.edit.specs.Search.{placeOfId}
-use Rattle.edit.specs.Halves.{arenaOf, HalfOf}
+use Rattle.edit.specs.Halves.{HalfOf}
 
 -- ---- the trip of an id
 

@@ -14,7 +14,6 @@ use Rattle.layout.specs.Calls.{After, after, Asked, asked, ifAccepted, runOf, r
 use Rattle.layout.proofs.Viewed.{run-refused, run-from-refused}
 use Rattle.view.proofs.Entries.{run-ends}
 use Rattle.export.specs.declared.Said.{Said}
-use Rattle.export.specs.declared.Told.{Told}
 use Rattle.export.specs.Said.{saidOf, left, leftOf, told, toldOf, counted, numbers, shown, arenaOf, runSaid}
 
 -- a call that leaves words

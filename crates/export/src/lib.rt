@@ -9,14 +9,12 @@ use trip::Window;
 use view::LEVELS;
 use view::SUBDIVISIONS;
 ghost use mathlib.Core.Path.{_≡_};
-ghost use mathlib.Core.List.{List};
-ghost use Prim.Native.Nat.{ℕ};
 ghost use lib.ListN.{length};
 ghost use Rattle.ruler.specs.Ruler.{scaleOf};
 ghost use Rattle.layout.specs.declared.Outcome.the-variants.{Accepted};
 ghost use Rattle.layout.specs.Refusals.{refusalNumber, runOutcome};
 ghost use Rattle.layout.specs.Calls.{index};
-ghost use Rattle.export.specs.Said.{saidOf, left, told, buildSaid, addSaid, removeSaid, checkSaid, askSaid, counted, censusSaid, arenaOf, shown, runSaid};
+ghost use Rattle.export.specs.Said.{saidOf, left, told, buildSaid, addSaid, removeSaid, checkSaid, askSaid, counted, censusSaid, arenaOf, numbers, shown, runSaid};
 
 // The number of refusal, or 0, and its detail.
 #[repr(C)]
@@ -192,30 +190,29 @@ pub extern "C" fn kheyambo_census(
 
 // Where an accepted run stands in the arenas.
 fn run_place<'a>(
-    numbers: Numbers,
-    directory: &[u32],
-    originals: &'a [u32],
-    replicas: &'a [u32],
+    w: u32,
+    m: u32,
     level: u32,
     partition: u32,
     subdivision: u32,
+    directory: &[u32],
+    originals: &'a [u32],
+    replicas: &'a [u32],
 ) -> Shown
-    requires { ⌜ runOutcome (scaleOf numbers) (index (now directory) (now originals) (now replicas)) level partition subdivision ≡ Accepted ⌝ }
-    ensures { λ r.
-        ⌜ r ≡ runSaid (numbers .w) (numbers .m) level partition subdivision
-        (index (now (directory .entry)) (now (originals .entry)) (now (replicas .entry))) ⌝ }
+    requires { ⌜ runOutcome (scaleOf (numbers w m)) (index (now directory) (now originals) (now replicas)) level partition subdivision ≡ Accepted ⌝ }
+    ensures { λ r. ⌜ r ≡ runSaid w m level partition subdivision (index (now (directory .entry)) (now (originals .entry)) (now (replicas .entry))) ⌝ }
 {
-    let from = view::run_from(
-        numbers,
+    let offset = view::run_from(
+        Numbers { w, m },
         directory,
         originals,
         replicas,
         level,
         partition,
         subdivision,
-    );
+    ) as u32;
     let part = view::run(
-        numbers,
+        Numbers { w, m },
         directory,
         originals,
         replicas,
@@ -223,11 +220,12 @@ fn run_place<'a>(
         partition,
         subdivision,
     );
+    let length = part.len() as u32;
     Shown {
         number: 0,
         arena: arena_of(subdivision),
-        offset: from as u32,
-        length: part.len() as u32,
+        offset,
+        length,
     }
 }
 
@@ -257,9 +255,8 @@ pub extern "C" fn kheyambo_run<'a>(
 ) -> Shown
     ensures { λ r. ⌜ r ≡ runSaid w m level partition subdivision (index (now (directory .entry)) (now (originals .entry)) (now (replicas .entry))) ⌝ }
 {
-    let numbers = Numbers { w, m };
     let outcome = view::run_outcome(
-        numbers,
+        Numbers { w, m },
         directory,
         originals,
         replicas,
@@ -269,13 +266,14 @@ pub extern "C" fn kheyambo_run<'a>(
     );
     match outcome {
         Outcome::Accepted => run_place(
-            numbers,
-            directory,
-            originals,
-            replicas,
+            w,
+            m,
             level,
             partition,
             subdivision,
+            directory,
+            originals,
+            replicas,
         ),
         Outcome::Refused { refusal, detail: _ } => refused_run(refusal),
     }
