@@ -2,17 +2,16 @@
 use mathlib.Core.Path.{_≡_, refl, sym, ap, _∙_}
 use mathlib.Core.List.{List, [], _∷_, _++_, append-assoc, append-nil}
 use Prim.Native.Nat.{ℕ, suc, _+_, _-_, _*_, _^_, _≤_, _<_}
-use native.Mathlib.Nat.{add-zero}
 use native.Mathlib.Numerals.{add-one}
 use native.Mathlib.Omega.{arith}
-use lib.ListN.{length, take, drop, getD, set, length-append, length-set, length-drop, drop-of-length-le}
+use lib.ListN.{length, take, drop, getD, set, length-append, length-set, length-take, length-drop, drop-of-length-le}
 use lib.Seq.{sets, sets-eq, length-sets, drop-cons, drop-length, drop-drop, take-all}
 use Rattle.lists.proofs.Stores.{sets-append}
 use Rattle.text.specs.Bytes.{space}
-use Rattle.text.specs.Decimal.{decimal}
+use Rattle.text.specs.Decimal.{decimal, Written, written, writtenOf}
 use Rattle.lists.specs.Lists.{over}
-use Rattle.text.proofs.Writing.{ten-digits}
-use Rattle.dialogue.specs.Reply.{mostDigits, idBytes}
+use Rattle.text.proofs.Writing.{ten-digits, fits-front}
+use Rattle.dialogue.specs.Reply.{mostDigits, idBytes, PutAt}
 
 -- bytes written over the front of the reply's part from a place on are stores from that place on
 pub part-over : (reply : List ℕ) (at : ℕ) (v part : List ℕ) → at + length v ≤ length reply → part ≡ over v (take (length reply - at) (drop at reply))
@@ -23,6 +22,17 @@ part-over reply at v part h e =
     let none : drop (length reply - at) (drop at reply) ≡ [] = drop-of-length-le (drop at reply) {i = length reply - at} (rw rest (omega arith)) in
     let all : take (length reply - at) (drop at reply) ≡ drop at reply = take-all (length reply - at) (drop at reply) (rw rest (omega arith)) in
     rw (none, append-nil, e, all, drop-drop) (sym (sets-eq v reply at h ∙ append-assoc (take at reply) v _))
+
+-- and so is a number written there, which has room
+pub number-put : (reply : List ℕ) (at n : ℕ) → n < 2 ^ 32 → at + mostDigits ≤ length reply → {count : ℕ} {part : List ℕ}
+    → written count part ≡ writtenOf n (take (length reply - at) (drop at reply))
+    → (count ≡ length (decimal n)) × (take at reply ++ (part ++ drop (length reply - at) (drop at reply)) ≡ sets reply at (decimal n))
+number-put reply at n b h e =
+    let rest = length-drop at reply in
+    let few = ten-digits n b in
+    let room : length (decimal n) ≤ length (take (length reply - at) (drop at reply)) = simp (length-take, length-drop) (omega arith) in
+    let done = e ∙ fits-front n _ room in
+    (ap (λ (w : Written). w .count) done, part-over reply at (decimal n) _ (omega arith) (ap (λ (w : Written). w .bytes) done))
 
 -- the reply has the first i ids, and room for the others
 pub record Putting (reply₀ reply : List ℕ) (at to : ℕ) (ids : List ℕ) (i : ℕ) : Type 0 where
@@ -36,7 +46,8 @@ pub record Putting (reply₀ reply : List ℕ) (at to : ℕ) (ids : List ℕ) (i
 pub putting-start : (reply : List ℕ) (at : ℕ) (ids : List ℕ) → at + (mostDigits + 1) * length ids ≤ length reply → Putting reply reply at at ids 0
 putting-start reply at ids h = record { all = refl; many = refl; long = refl; room = omega arith; upto = omega arith; short = omega arith }
 
-pub putting-turn : {reply₀ reply reply′ : List ℕ} {at to to′ : ℕ} {ids : List ℕ} {i : ℕ} → Putting reply₀ reply at to ids i → i < length ids → getD ids i 0 < 2 ^ 32
+pub putting-turn : {reply₀ reply reply′ : List ℕ} {at to to′ : ℕ} {ids : List ℕ} {i : ℕ}
+    → Putting reply₀ reply at to ids i → i < length ids → getD ids i 0 < 2 ^ 32
     → (to′ ≡ to + 1 + length (decimal (getD ids i 0))) × (reply′ ≡ sets (set reply to space) (to + 1) (decimal (getD ids i 0)))
     → Putting reply₀ reply′ at to′ ids (i + 1)
 unfolding idBytes
@@ -57,17 +68,16 @@ putting-turn {reply₀} {reply} {reply′} {at} {to} {to′} {ids} {i} w h b e =
     }
 
 pub putting-end : {reply₀ reply : List ℕ} {at to : ℕ} {ids : List ℕ} {i : ℕ} → Putting reply₀ reply at to ids i → length ids ≤ i
-    → (to ≡ at + length (idBytes ids)) × (reply ≡ sets reply₀ at (idBytes ids)) × (to ≤ at + (mostDigits + 1) * length ids)
+    → (to ≤ at + (mostDigits + 1) * length ids) × PutAt at (idBytes ids) reply₀ reply to
 unfolding idBytes
 putting-end {reply₀} {reply} {at} {to} {ids} {i} w h =
     let e : i ≡ length ids = omega (arith, w .upto) in
     let none : drop i ids ≡ [] = rw e (drop-length ids) in
     let many : to + 0 ≡ at + length (idBytes ids) = rw none at (w .many) in
-    (omega arith, rw none at (w .all), omega (arith, w .short))
+    (omega (arith, w .short), (omega arith, rw none at (w .all)))
 
 -- three runs of bytes, each put where the one before it ends
-pub three-puts : (l v u w : List ℕ) {l₁ l₂ l₃ : List ℕ} {n₁ n₂ n₃ : ℕ} → (n₁ ≡ 0 + length v) × (l₁ ≡ sets l 0 v)
-    → (n₂ ≡ n₁ + length u) × (l₂ ≡ sets l₁ n₁ u) → (n₃ ≡ n₂ + length w) × (l₃ ≡ sets l₂ n₂ w)
+pub three-puts : (l v u w : List ℕ) {l₁ l₂ l₃ : List ℕ} {n₁ n₂ n₃ : ℕ} → PutAt 0 v l l₁ n₁ → PutAt n₁ u l₁ l₂ n₂ → PutAt n₂ w l₂ l₃ n₃
     → (n₃ ≡ length (v ++ (u ++ w))) × (l₃ ≡ sets l 0 (v ++ (u ++ w)))
 three-puts l v u w {l₁} {l₂} {l₃} {n₁} {n₂} {n₃} a b c =
     let count = length-append v (u ++ w) in

@@ -1,23 +1,21 @@
 -- What a call left in the words lent, with what was written, is the turn of the definitions. The directory's front is lent to a call, as
 -- long as the ruler asks, and comes back in its place.
 -- Assumes nothing.
-use mathlib.Core.Path.{_≡_, refl, sym, ap, _∙_}
+use mathlib.Core.Path.{_≡_, refl, ap, _∙_}
 use mathlib.Core.Bool.{Bool, true, false, cond, _||_}
-use mathlib.Core.List.{List, [], _∷_, _++_}
-use Prim.Native.Nat.{ℕ, _+_, _-_, _*_, _^_, _≤_, _<_}
+use mathlib.Core.List.{List, []}
+use Prim.Native.Nat.{ℕ, _+_, _-_, _^_, _≤_, _<_}
 use native.Mathlib.Nat.{pow-le-pow-right}
 use native.Mathlib.Omega.{arith}
 use borrow.Author.Tests.{ltb-false}
 use lib.Dec.{ltb, lit<}
-use lib.ListN.{length, take, drop, length-append, length-drop}
-use lib.Seq.{sets}
-use borrow.Rule.Slice.PartMut.{midOf, putMid}
+use lib.ListN.{length, take, drop, length-append}
+use borrow.Rule.Slice.PartMut.{midOf, putMid, mid-len}
 use Rattle.lists.proofs.Lent.{head-lent, head-back}
 use Rattle.ruler.specs.declared.Numbers.{Numbers}
 use Rattle.ruler.specs.Ruler.{Scale, scaleOf}
 use Rattle.trip.specs.declared.Window.{Window}
 use Rattle.trip.specs.Relationships.{named}
-use Rattle.layout.specs.declared.Refusal.{Refusal}
 use Rattle.layout.specs.declared.Outcome.{Outcome}
 use Rattle.layout.specs.declared.Outcome.the-variants.{Accepted, Refused}
 use Rattle.layout.specs.Words.{partitions, directoryLength, Index}
@@ -31,24 +29,19 @@ use Rattle.text.specs.Command.{commandOf}
 use Rattle.text.proofs.Longest.{longestLine, cut-line}
 use Rattle.dialogue.specs.declared.Desk.{Desk}
 use Rattle.dialogue.specs.declared.Turned.{Turned}
-use Rattle.dialogue.specs.Reply.{outcomeBytes, listBytes, asLine}
-use Rattle.dialogue.specs.Session.{deepestHere, State, state, Turn, shown, writtenBack, badLine, whenOpen, opened, edited, answered, turnOf, Done}
+use Rattle.dialogue.specs.Reply.{outcomeBytes, answerBytes, Wrote}
+use Rattle.dialogue.specs.Session.{deepestHere, State, state, Turn, shown, writtenBack, badLine, whenOpen, opened, edited, answered, turnOf, turned, Done}
 
 -- a line that is cut where no line with a meaning goes on does and writes what the whole line does
 pub cut-turn : (s : State) (line : List ℕ) (k : ℕ) → longestLine < k → turnOf s (commandOf (take k line)) ≡ turnOf s (commandOf line)
 cut-turn s line k h = ap (turnOf s) (cut-line line k h)
 
--- the words for an outcome were written into the reply
-abbrev pub Wrote : (bytes reply₀ reply : List ℕ) → (written : ℕ) → Type 0
-Wrote bytes reply₀ reply written = (written ≡ length (asLine bytes)) × (reply ≡ sets reply₀ 0 (asLine bytes))
-
-abbrev turned : Desk → (written : ℕ) → Bool → Turned
-turned d n b = record { desk = d; written = n; more = b }
-
--- the directory lent is long enough for every ruler of the session
-pub fits : (m : ℕ) → m ≤ deepestHere → directoryLength m ≤ directoryLength deepestHere
+-- the directory lent has the words that the ruler asks for
+pub in-front : (numbers : Numbers) {n : ℕ} (d : List ℕ) → n ≡ directoryLength (numbers .m) → numbers .m ≤ deepestHere
+    → directoryLength deepestHere ≤ length d → n ≤ length d
 unfolding directoryLength partitions
-fits m h =
+in-front numbers d e deep whole =
+    let m = numbers .m in
     let more : 2 ^ (m + 1) ≤ 2 ^ (deepestHere + 1) = pow-le-pow-right (lit< tt) {i = m + 1} {j = deepestHere + 1} (omega arith) in
     omega arith
 
@@ -57,92 +50,86 @@ pub not-deeper : (started : Bool) (m : ℕ) → (started || ltb deepestHere m) �
 not-deeper false m e = ltb-false deepestHere m e
 not-deeper true m e = let z : _≡_ {A = ℕ} 0 1 = cc in omega arith
 
-module _ (numbers : Numbers) (d o r : List ℕ) (n : ℕ) where
+module _ (numbers : Numbers) (d o r : List ℕ) (n : ℕ) (long : n ≡ directoryLength (numbers .m)) where
   -- what is lent is the index of the ruler
-  pub lent : n ≡ directoryLength (numbers .m) → index (midOf 0 (n - 0) d) o r ≡ shown numbers (index d o r)
+  lent : index (midOf 0 (n - 0) d) o r ≡ shown numbers (index d o r)
   unfolding shown
-  lent e = rw (head-lent d n, e)
-
-  -- and what comes back is put over its front
-  pub back : {d′ o′ r′ : List ℕ} {outcome : Outcome} {a : After} → length d′ ≡ n → after outcome (index d′ o′ r′) ≡ a
-      → index (putMid 0 (n - 0) d d′) o′ r′ ≡ writtenBack (a .words) (index d o r)
-  unfolding writtenBack over
-  back {d′} l e = rw (← e, head-back d n d′, ← l)
-
-  pub opened-done : (desk : Desk) (l : List ℕ) {d′ o′ r′ rows reply₀ reply : List ℕ} {outcome : Outcome} {accepted : Bool} {written : ℕ}
-      → n ≡ directoryLength (numbers .m) → length d′ ≡ n → rows ≡ []
-      → after outcome (index d′ o′ r′) ≡ buildOf (scaleOf numbers) rows (index (midOf 0 (n - 0) d) o r)
-      → accepted ≡ isAccepted outcome → Wrote (outcomeBytes outcome) reply₀ reply written
-      → Done (opened (state desk (index d o r) l) numbers) (turned (record { started = accepted; numbers = numbers }) written accepted)
-      (index (putMid 0 (n - 0) d d′) o′ r′) l reply₀ reply
-  unfolding opened
-  opened-done desk l {d′} {o′} {r′} {rows} {reply₀} {reply} {outcome} {accepted} long kept none made good wrote =
-      let a : After = buildOf (scaleOf numbers) [] (shown numbers (index d o r)) in
-      let e : after outcome (index d′ o′ r′) ≡ a = made ∙ rw (none, lent long) in
-      let same : outcome ≡ a .outcome = ap (λ (x : After). x .outcome) e in
-      let words = back {a = a} kept e in
-      record {
-        next = rw (words, good, same);
-        goes = rw (good, same);
-        count = rw (← same) (wrote .0);
-        bytes = rw (← same) (wrote .1);
-      }
-
-  pub edited-done : (desk : Desk) (l : List ℕ) {d′ o′ r′ reply₀ reply : List ℕ} {outcome : Outcome} {written : ℕ} (call : Index → After)
-      → n ≡ directoryLength (numbers .m) → length d′ ≡ n
-      → after outcome (index d′ o′ r′) ≡ call (index (midOf 0 (n - 0) d) o r) → Wrote (outcomeBytes outcome) reply₀ reply written
-      → Done (edited (state desk (index d o r) l) (call (shown numbers (index d o r)))) (turned desk written true)
-      (index (putMid 0 (n - 0) d d′) o′ r′) l reply₀ reply
-  unfolding edited
-  edited-done desk l {d′} {o′} {r′} {reply₀} {reply} {outcome} call long kept made wrote =
-      let a : After = call (shown numbers (index d o r)) in
-      let e : after outcome (index d′ o′ r′) ≡ a = made ∙ ap call (lent long) in
-      let same : outcome ≡ a .outcome = ap (λ (x : After). x .outcome) e in
-      let words = back {a = a} kept e in
-      record {
-        next = rw words;
-        goes = refl;
-        count = rw (← same) (wrote .0);
-        bytes = rw (← same) (wrote .1);
-      }
+  lent = rw (head-lent d n, long)
 
   pub answered-done : (desk : Desk) (list : List ℕ) {l′ reply₀ reply : List ℕ} {outcome : Outcome} {count written : ℕ} (call : Index → Asked)
-      → n ≡ directoryLength (numbers .m) → asked outcome count l′ ≡ call (index (midOf 0 (n - 0) d) o r)
-      → (bytes : List ℕ) → ifAccepted outcome (listBytes (take count l′)) (outcomeBytes outcome) ≡ bytes → Wrote bytes reply₀ reply written
+      → asked outcome count l′ ≡ call (index (midOf 0 (n - 0) d) o r) → Wrote (answerBytes outcome (midOf 0 (count - 0) l′)) reply₀ reply written
       → Done (answered (state desk (index d o r) list) (call (shown numbers (index d o r)))) (turned desk written true) (index d o r) l′ reply₀ reply
   unfolding answered
-  answered-done desk list {l′} {reply₀} {reply} {outcome} {count} call long made bytes same wrote =
-      let e : asked outcome count l′ ≡ call (shown numbers (index d o r)) = made ∙ ap call (lent long) in
+  answered-done desk list {l′} {reply₀} {reply} {outcome} {count} call made wrote =
+      let e : asked outcome count l′ ≡ call (shown numbers (index d o r)) = made ∙ ap call lent in
+      let ids = head-lent l′ count in
       record {
         next = rw (← e);
         goes = refl;
-        count = rw (← e, same) (wrote .0);
-        bytes = rw (← e, same) (wrote .1);
+        count = rw (← e, ← ids) (wrote .0);
+        bytes = rw (← e, ← ids) (wrote .1);
       }
 
--- the ids of an accepted question have room in its answer list, which is as long as before
+  module _ (deep : numbers .m ≤ deepestHere) (whole : directoryLength deepestHere ≤ length d) where
+    -- and what comes back, as long as what was lent, is put over its front
+    back : {d′ o′ r′ : List ℕ} {outcome : Outcome} {a : After} → length d′ ≡ length (midOf 0 (n - 0) d) → after outcome (index d′ o′ r′) ≡ a
+        → index (putMid 0 (n - 0) d d′) o′ r′ ≡ writtenBack (a .words) (index d o r)
+    unfolding writtenBack over
+    back {d′} kept e =
+        let part = mid-len 0 n d (in-front numbers d long deep whole) in
+        let l : length d′ ≡ n = omega (arith, kept, part) in
+        rw (← e, head-back d n d′, ← l)
+
+    pub opened-done : (desk : Desk) (l : List ℕ) {d′ o′ r′ rows reply₀ reply : List ℕ} {outcome : Outcome} {accepted : Bool} {written : ℕ}
+        → after outcome (index d′ o′ r′) ≡ buildOf (scaleOf numbers) rows (index (midOf 0 (n - 0) d) o r) → rows ≡ []
+        → length d′ ≡ length (midOf 0 (n - 0) d)
+        → accepted ≡ isAccepted outcome → Wrote (outcomeBytes outcome) reply₀ reply written
+        → Done (opened (state desk (index d o r) l) numbers) (turned (record { started = accepted; numbers = numbers }) written accepted)
+        (index (putMid 0 (n - 0) d d′) o′ r′) l reply₀ reply
+    unfolding opened
+    opened-done desk l {d′} {o′} {r′} {rows} {reply₀} {reply} {outcome} {accepted} made none kept good wrote =
+        let a : After = buildOf (scaleOf numbers) [] (shown numbers (index d o r)) in
+        let e : after outcome (index d′ o′ r′) ≡ a = made ∙ rw (none, lent) in
+        let same : outcome ≡ a .outcome = ap (λ (x : After). x .outcome) e in
+        let words = back {a = a} kept e in
+        record {
+          next = rw (words, good, same);
+          goes = rw (good, same);
+          count = rw (← same) (wrote .0);
+          bytes = rw (← same) (wrote .1);
+        }
+
+    pub edited-done : (desk : Desk) (l : List ℕ) {d′ o′ r′ reply₀ reply : List ℕ} {outcome : Outcome} {written : ℕ} (call : Index → After)
+        → after outcome (index d′ o′ r′) ≡ call (index (midOf 0 (n - 0) d) o r) → length d′ ≡ length (midOf 0 (n - 0) d)
+        → Wrote (outcomeBytes outcome) reply₀ reply written
+        → Done (edited (state desk (index d o r) l) (call (shown numbers (index d o r)))) (turned desk written true)
+        (index (putMid 0 (n - 0) d d′) o′ r′) l reply₀ reply
+    unfolding edited
+    edited-done desk l {d′} {o′} {r′} {reply₀} {reply} {outcome} call made kept wrote =
+        let a : After = call (shown numbers (index d o r)) in
+        let e : after outcome (index d′ o′ r′) ≡ a = made ∙ ap call lent in
+        let same : outcome ≡ a .outcome = ap (λ (x : After). x .outcome) e in
+        let words = back {a = a} kept e in
+        record {
+          next = rw words;
+          goes = refl;
+          count = rw (← same) (wrote .0);
+          bytes = rw (← same) (wrote .1);
+        }
+
+-- the ids of a question have room in its answer list, which is as long as before; a refused question has none
 pub count-within : (s : Scale) (x : Index) (code : ℕ) (w : Window) (list : List ℕ) {l′ : List ℕ} {outcome : Outcome} {count : ℕ}
-    → asked outcome count l′ ≡ askOf s x code w list → outcome ≡ Accepted → length l′ ≡ length list → count ≤ length list
+    → asked outcome count l′ ≡ askOf s x code w list → length l′ ≡ length list → count ≤ length l′
 unfolding askOf ifAccepted over
-count-within s x code w list {l′} {outcome} {count} e accepted kept =
-    let q = askOutcome s x code w (length list) in
-    let ids = answerTo (named code) w (tableOf s x) in
-    let q-accepted : q ≡ Accepted = sym (ap (λ (a : Asked). a .outcome) e) ∙ accepted in
-    let counted : count ≡ length ids = ap (λ (a : Asked). a .count) e ∙ rw q-accepted in
-    let written : l′ ≡ ids ++ drop (length ids) list = ap (λ (a : Asked). a .answers) e ∙ rw q-accepted in
-    let long = ap length written ∙ length-append ids (drop (length ids) list) in
-    omega (arith, length-drop (length ids) list)
-
--- what is written for a question's answer, and for its refusal
-pub listed : {outcome : Outcome} (l′ : List ℕ) (count : ℕ) → outcome ≡ Accepted
-    → ifAccepted outcome (listBytes (take count l′)) (outcomeBytes outcome) ≡ listBytes (midOf 0 (count - 0) l′)
-unfolding ifAccepted
-listed l′ count e = rw (e, ← head-lent l′ count)
-
-pub refused : {outcome : Outcome} {why : Refusal} {detail : ℕ} (ids : List ℕ) → outcome ≡ Refused why detail
-    → ifAccepted outcome ids (outcomeBytes outcome) ≡ outcomeBytes outcome
-unfolding ifAccepted
-refused ids e = rw e
+count-within s x code w list {l′} {outcome} {count} e kept =
+    go (askOutcome s x code w (length list)) (answerTo (named code) w (tableOf s x))
+    (ap (λ (a : Asked). a .count) e) (ap (λ (a : Asked). a .answers) e)
+  where
+    go : (q : Outcome) (ids : List ℕ) → count ≡ ifAccepted q (length ids) 0 → l′ ≡ ifAccepted q (over ids list) list → count ≤ length l′
+    go Accepted ids counted written =
+        let long = ap length written ∙ length-append ids (drop (length ids) list) in
+        omega arith
+    go (Refused why detail) ids counted written = omega arith
 
 -- the turn of the case that holds
 module _ (b : Bool) (t u : Turn) {r : Turned} {x : Index} {answers reply₀ reply : List ℕ} where

@@ -1,8 +1,10 @@
 -- Document 01, the session program: the bytes that it writes.
+use mathlib.Core.Path.{_≡_}
 use mathlib.Core.List.{List, [], _∷_, _++_}
 use Prim.Native.Char.{code}
-use Prim.Native.Nat.{ℕ}
+use Prim.Native.Nat.{ℕ, _+_}
 use lib.ListN.{length}
+use lib.Seq.{sets}
 use Rattle.layout.specs.declared.Outcome.{Outcome}
 use Rattle.layout.specs.declared.Outcome.the-variants.{Accepted, Refused}
 use Rattle.layout.specs.Refusals.{refusalNumber}
@@ -32,6 +34,11 @@ idBytes (i ∷ ids) = (space ∷ decimal i) ++ idBytes ids
 unfoldable pub listBytes : List ℕ → List ℕ
 listBytes ids = decimal (length ids) ++ idBytes ids
 
+-- for a question: the count and the ids, or the refusal
+unfoldable pub answerBytes : Outcome → (ids : List ℕ) → List ℕ
+answerBytes Accepted ids = listBytes ids
+answerBytes (Refused why detail) ids = outcomeBytes (Refused why detail)
+
 -- "a malformed line writes "bad line""
 unfoldable pub badLineBytes : List ℕ
 badLineBytes = code "b" ∷ code "a" ∷ code "d" ∷ space ∷ code "l" ∷ code "i" ∷ code "n" ∷ code "e" ∷ []
@@ -43,3 +50,11 @@ asLine l = l ++ (newline ∷ [])
 -- no line that lists no ids is longer
 abbrev pub shortReply : ℕ
 shortReply = 32
+
+-- these bytes were put into the reply at a place, and the next go to r
+abbrev pub PutAt : (at : ℕ) → (bytes reply₀ reply : List ℕ) → (r : ℕ) → Type 0
+PutAt at bytes reply₀ reply r = (r ≡ at + length bytes) × (reply ≡ sets reply₀ at bytes)
+
+-- this line was written into the reply from its front, and has r bytes
+abbrev pub Wrote : (line reply₀ reply : List ℕ) → (r : ℕ) → Type 0
+Wrote line reply₀ reply r = (r ≡ length (asLine line)) × (reply ≡ sets reply₀ 0 (asLine line))

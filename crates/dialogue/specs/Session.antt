@@ -2,7 +2,7 @@
 use mathlib.Core.Path.{_≡_}
 use mathlib.Core.Bool.{Bool, true, false, cond, _||_}
 use mathlib.Core.List.{List, [], _∷_, _++_}
-use Prim.Native.Nat.{ℕ, _+_, _*_}
+use Prim.Native.Nat.{ℕ, _+_, _*_, _≤_}
 use lib.Dec.{ltb}
 use lib.ListN.{length, take, replicate}
 use lib.Seq.{sets}
@@ -13,14 +13,14 @@ use Rattle.trip.specs.declared.Window.{Window}
 use Rattle.layout.specs.Words.{entryWords, directoryLength, Index}
 use Rattle.lists.specs.Lists.{over}
 use Rattle.layout.specs.Refusals.{isAccepted}
-use Rattle.layout.specs.Calls.{index, After, Asked, buildOf, addOf, removeOf, askOf, ifAccepted}
+use Rattle.layout.specs.Calls.{index, After, Asked, buildOf, addOf, removeOf, askOf}
 use Rattle.text.specs.declared.Command.{Command}
 use Rattle.text.specs.declared.Command.the-variants.{Ruler, Add, Remove, Ask, Bad}
 use Rattle.text.specs.Lines.{linesOf}
 use Rattle.text.specs.Command.{commandOf}
 use Rattle.dialogue.specs.declared.Desk.{Desk}
 use Rattle.dialogue.specs.declared.Turned.{Turned}
-use Rattle.dialogue.specs.Reply.{outcomeBytes, listBytes, badLineBytes, asLine}
+use Rattle.dialogue.specs.Reply.{mostDigits, outcomeBytes, answerBytes, badLineBytes, asLine, shortReply}
 
 -- "D w m (m at most 8)"
 abbrev pub deepestHere : ℕ
@@ -73,17 +73,31 @@ opened s n =
       goesOn = isAccepted (a .outcome);
     }
 
--- "T id st end to add, X id to remove": ""ok", "refused" and the number"
+-- ""ok", "refused" and the number"
 unfoldable pub edited : State → After → Turn
-edited s a = record { next = state (s .desk) (writtenBack (a .words) (s .words)) (s .answers); writes = asLine (outcomeBytes (a .outcome)); goesOn = true }
+edited s a = record {
+  next = state (s .desk) (writtenBack (a .words) (s .words)) (s .answers);
+  writes = asLine (outcomeBytes (a .outcome));
+  goesOn = true;
+}
 
 -- "for Q the count and the ids, one space between"
 unfoldable pub answered : State → Asked → Turn
 answered s a = record {
   next = state (s .desk) (s .words) (a .answers);
-  writes = asLine (ifAccepted (a .outcome) (listBytes (take (a .count) (a .answers))) (outcomeBytes (a .outcome)));
+  writes = asLine (answerBytes (a .outcome) (take (a .count) (a .answers)));
   goesOn = true;
 }
+
+-- "T id st end to add, X id to remove, Q code st end", each in the index of the session's ruler
+abbrev pub added : State → Trip → Turn
+added s t = edited s (addOf (scaleOf (s .desk .numbers)) (shown (s .desk .numbers) (s .words)) t)
+
+abbrev pub removed : State → (id : ℕ) → Turn
+removed s i = edited s (removeOf (scaleOf (s .desk .numbers)) (shown (s .desk .numbers) (s .words)) i)
+
+abbrev pub questioned : State → (code : ℕ) → Window → Turn
+questioned s c w = answered s (askOf (scaleOf (s .desk .numbers)) (shown (s .desk .numbers) (s .words)) c w (s .answers))
 
 -- a line that is only for an open session: "a T, X or Q before D is malformed"
 abbrev pub whenOpen : State → Turn → Turn
@@ -93,13 +107,9 @@ whenOpen s t = cond (s .desk .started) t (badLine s)
 unfoldable pub turnOf : State → Command → Turn
 turnOf s Bad = badLine s
 turnOf s (Ruler w m) = cond (s .desk .started || ltb deepestHere m) (badLine s) (opened s (record { w = w; m = m }))
-turnOf s (Add i st end) =
-    let t : Trip = record { id = i; start = timeAt st; end = timeAt end } in
-    whenOpen s (edited s (addOf (scaleOf (s .desk .numbers)) (shown (s .desk .numbers) (s .words)) t))
-turnOf s (Remove i) = whenOpen s (edited s (removeOf (scaleOf (s .desk .numbers)) (shown (s .desk .numbers) (s .words)) i))
-turnOf s (Ask c st end) =
-    let w : Window = record { start = timeAt st; end = timeAt end } in
-    whenOpen s (answered s (askOf (scaleOf (s .desk .numbers)) (shown (s .desk .numbers) (s .words)) c w (s .answers)))
+turnOf s (Add i st end) = whenOpen s (added s (record { id = i; start = timeAt st; end = timeAt end }))
+turnOf s (Remove i) = whenOpen s (removed s i)
+turnOf s (Ask c st end) = whenOpen s (questioned s c (record { start = timeAt st; end = timeAt end }))
 
 -- The whole session: what is written for the lines, one after another, until one ends it.
 unfoldable pub writesFor : State → List (List ℕ) → List ℕ
@@ -116,9 +126,22 @@ start =
 unfoldable pub sessionOf : (input : List ℕ) → List ℕ
 sessionOf input = writesFor start (linesOf input)
 
+abbrev pub turned : Desk → (written : ℕ) → (more : Bool) → Turned
+turned d n b = record { desk = d; written = n; more = b }
+
 -- what a turn of the code left is what the turn t says
 pub record Done (t : Turn) (r : Turned) (x : Index) (answers reply₀ reply : List ℕ) : Type 0 where
   pub next : state (r .desk) x answers ≡ t .next
   pub goes : r .more ≡ t .goesOn
   pub count : r .written ≡ length (t .writes)
   pub bytes : reply ≡ sets reply₀ 0 (t .writes)
+
+-- the words lent have room for a turn: the directory for every ruler of the session, and the reply for a line that lists no ids
+abbrev pub Room : Numbers → (directory reply : List ℕ) → Type 0
+Room n directory reply = (n .m ≤ deepestHere) × (directoryLength deepestHere ≤ length directory) × (shortReply ≤ length reply)
+
+-- and for a question, the reply for every list of answers
+abbrev pub RoomToAnswer : Numbers → (directory answers reply : List ℕ) → Type 0
+RoomToAnswer n directory answers reply =
+    (n .m ≤ deepestHere) × (directoryLength deepestHere ≤ length directory) × (length answers ≤ mostAnswers)
+    × (shortReply + (mostDigits + 1) * mostAnswers ≤ length reply)

@@ -1,19 +1,15 @@
 // The bytes that the session writes: words and numbers put into a reply one after another.
 use layout::Outcome;
 use text::MOST_DIGITS;
-ghost use mathlib.Core.Path.{_≡_};
-ghost use mathlib.Core.List.{_++_};
 ghost use Prim.Native.Nat.{_+_, _*_, _≤_, _<_};
 ghost use lib.ListN.{length};
-ghost use lib.Seq.{sets};
 ghost use Rattle.text.specs.Decimal.{decimal};
-ghost use Rattle.layout.specs.Refusals.{numberOf};
-ghost use Rattle.dialogue.specs.Reply.{mostDigits, shortReply, idBytes, outcomeBytes, listBytes, badLineBytes, asLine};
+ghost use Rattle.dialogue.specs.Reply.{mostDigits, shortReply, idBytes, outcomeBytes, listBytes, answerBytes, badLineBytes, PutAt, Wrote};
 
 // Puts bytes into the reply at a place, and says where the next go.
 pub fn put(reply: &mut [u8], at: usize, bytes: &[u8]) -> usize
     requires { ⌜ at + length (now bytes) ≤ length (now reply) ⌝ }
-    ensures { λ r. ⌜ (r ≡ at + length (now (bytes .entry))) × (now (reply .exit) ≡ sets (now (reply .entry)) at (now (bytes .entry))) ⌝ }
+    ensures { λ r. ⌜ PutAt at (now (bytes .entry)) (now (reply .entry)) (now (reply .exit)) r ⌝ }
 {
     let mut i: usize = 0;
     while i < bytes.len() {
@@ -26,7 +22,7 @@ pub fn put(reply: &mut [u8], at: usize, bytes: &[u8]) -> usize
 // Puts a number into the reply.
 pub fn put_number(reply: &mut [u8], at: usize, n: u32) -> usize
     requires { ⌜ at + mostDigits ≤ length (now reply) ⌝ }
-    ensures { λ r. ⌜ (r ≡ at + length (decimal n)) × (now (reply .exit) ≡ sets (now (reply .entry)) at (decimal n)) ⌝ }
+    ensures { λ r. ⌜ PutAt at (decimal n) (now (reply .entry)) (now (reply .exit)) r ⌝ }
 {
     at + text::write_number(n, &mut reply[at..])
 }
@@ -34,7 +30,9 @@ pub fn put_number(reply: &mut [u8], at: usize, n: u32) -> usize
 // Puts each id into the reply, after a space.
 fn put_ids(reply: &mut [u8], at: usize, ids: &[u32]) -> usize
     requires { ⌜ at + (mostDigits + 1) * length (now ids) ≤ length (now reply) ⌝ }
-    ensures { λ r. ⌜ (r ≡ at + length (idBytes (now (ids .entry)))) × (now (reply .exit) ≡ sets (now (reply .entry)) at (idBytes (now (ids .entry)))) × (r ≤ at + (mostDigits + 1) * length (now (ids .entry))) ⌝ }
+    ensures { λ r.
+        ⌜ (r ≤ at + (mostDigits + 1) * length (now (ids .entry)))
+        × PutAt at (idBytes (now (ids .entry))) (now (reply .entry)) (now (reply .exit)) r ⌝ }
 {
     let mut to = at;
     let mut i: usize = 0;
@@ -49,7 +47,7 @@ fn put_ids(reply: &mut [u8], at: usize, ids: &[u32]) -> usize
 // The line for an outcome.
 pub fn put_outcome(reply: &mut [u8], outcome: Outcome) -> usize
     requires { ⌜ shortReply ≤ length (now reply) ⌝ }
-    ensures { λ r. ⌜ (r ≡ length (asLine (outcomeBytes outcome))) × (now (reply .exit) ≡ sets (now (reply .entry)) 0 (asLine (outcomeBytes outcome))) ⌝ }
+    ensures { λ r. ⌜ Wrote (outcomeBytes outcome) (now (reply .entry)) (now (reply .exit)) r ⌝ }
 {
     match outcome {
         Outcome::Accepted => put(reply, 0, b"ok\n"),
@@ -62,20 +60,33 @@ pub fn put_outcome(reply: &mut [u8], outcome: Outcome) -> usize
 }
 
 // The line for the ids of an accepted question.
-pub fn put_answer(reply: &mut [u8], ids: &[u32]) -> usize
-    requires { ⌜ shortReply + (mostDigits + 1) * length (now ids) ≤ length (now reply) ⌝ }
-    requires { ⌜ length (now ids) < 4294967296 ⌝ }
-    ensures { λ r. ⌜ (r ≡ length (asLine (listBytes (now (ids .entry))))) × (now (reply .exit) ≡ sets (now (reply .entry)) 0 (asLine (listBytes (now (ids .entry))))) ⌝ }
+fn put_list(reply: &mut [u8], ids: &[u32]) -> usize
+    requires { ⌜ (shortReply + (mostDigits + 1) * length (now ids) ≤ length (now reply)) × (length (now ids) < 4294967296) ⌝ }
+    ensures { λ r. ⌜ Wrote (listBytes (now (ids .entry))) (now (reply .entry)) (now (reply .exit)) r ⌝ }
 {
     let count = put_number(reply, 0, ids.len() as u32);
     let list = put_ids(reply, count, ids);
     put(reply, list, b"\n")
 }
 
+// The line for a question: its ids, or the refusal.
+pub fn put_answer(reply: &mut [u8], outcome: Outcome, ids: &[u32]) -> usize
+    requires { ⌜ (shortReply + (mostDigits + 1) * length (now ids) ≤ length (now reply)) × (length (now ids) < 4294967296) ⌝ }
+    ensures { λ r. ⌜ Wrote (answerBytes outcome (now (ids .entry))) (now (reply .entry)) (now (reply .exit)) r ⌝ }
+{
+    match outcome {
+        Outcome::Accepted => put_list(reply, ids),
+        Outcome::Refused {
+            refusal: _,
+            detail: _,
+        } => put_outcome(reply, outcome),
+    }
+}
+
 // The line for a malformed line.
 pub fn put_bad_line(reply: &mut [u8]) -> usize
     requires { ⌜ shortReply ≤ length (now reply) ⌝ }
-    ensures { λ r. ⌜ (r ≡ length (asLine badLineBytes)) × (now (reply .exit) ≡ sets (now (reply .entry)) 0 (asLine badLineBytes)) ⌝ }
+    ensures { λ r. ⌜ Wrote badLineBytes (now (reply .entry)) (now (reply .exit)) r ⌝ }
 {
     put(reply, 0, b"bad line\n")
 }

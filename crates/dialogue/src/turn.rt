@@ -12,16 +12,15 @@ use trip::Window;
 ghost use mathlib.Core.Path.{_≡_};
 ghost use mathlib.Core.Bool.{true};
 ghost use mathlib.Core.List.{List};
-ghost use Prim.Native.Nat.{ℕ, _+_, _*_, _≤_};
+ghost use Prim.Native.Nat.{ℕ, _≤_};
 ghost use lib.ListN.{length};
-ghost use Rattle.ruler.specs.Ruler.{scaleOf};
 ghost use Rattle.layout.specs.Words.{directoryLength, Index};
 ghost use Rattle.layout.specs.Refusals.{isAccepted};
-ghost use Rattle.layout.specs.Calls.{index, addOf, removeOf, askOf};
+ghost use Rattle.layout.specs.Calls.{index};
 ghost use Rattle.text.specs.declared.Command.the-variants.{Ruler, Add, Remove, Ask};
 ghost use Rattle.text.specs.Command.{commandOf};
-ghost use Rattle.dialogue.specs.Reply.{mostDigits, shortReply};
-ghost use Rattle.dialogue.specs.Session.{deepestHere, mostAnswers, state, Done, shown, badLine, opened, edited, answered, turnOf};
+ghost use Rattle.dialogue.specs.Reply.{shortReply};
+ghost use Rattle.dialogue.specs.Session.{deepestHere, state, Done, badLine, opened, added, removed, questioned, turnOf, turned, Room, RoomToAnswer};
 
 // The deepest level that a D line may name.
 const DEEPEST_HERE: u32 = 8;
@@ -35,6 +34,17 @@ fn is_accepted(outcome: Outcome) -> bool
             refusal: _,
             detail: _,
         } => false,
+    }
+}
+
+// A turn after which the next line is read.
+fn goes_on(desk: Desk, written: usize) -> Turned
+    ensures { λ r. ⌜ r ≡ turned desk written true ⌝ }
+{
+    Turned {
+        desk,
+        written,
+        more: true,
     }
 }
 
@@ -60,8 +70,12 @@ fn open_turn(
     replicas: &mut [u32],
     reply: &mut [u8],
 ) -> Turned
-    requires { ⌜ (numbers .m ≤ deepestHere) × (directoryLength deepestHere ≤ length (now directory)) × (shortReply ≤ length (now reply)) ⌝ }
-    ensures { λ r. ⌜ ((l : List ℕ) → Done (opened (state desk (index (now (directory .entry)) (now (originals .entry)) (now (replicas .entry))) l) numbers) r (index (now (directory .exit)) (now (originals .exit)) (now (replicas .exit))) l (now (reply .entry)) (now (reply .exit))) ⌝ }
+    requires { ⌜ Room numbers (now directory) (now reply) ⌝ }
+    ensures { λ r.
+        ⌜ ((l : List ℕ) → Done
+        (opened (state desk (index (now (directory .entry)) (now (originals .entry)) (now (replicas .entry))) l) numbers) r
+        (index (now (directory .exit)) (now (originals .exit)) (now (replicas .exit))) l
+        (now (reply .entry)) (now (reply .exit))) ⌝ }
 {
     let n = directory_length(numbers.m);
     let no_rows = [0u32; 1];
@@ -93,18 +107,18 @@ fn add_turn(
     replicas: &mut [u32],
     reply: &mut [u8],
 ) -> Turned
-    requires { ⌜ (desk .numbers .m ≤ deepestHere) × (directoryLength deepestHere ≤ length (now directory)) × (shortReply ≤ length (now reply)) ⌝ }
-    ensures { λ r. ⌜ ((l : List ℕ) → Done (edited (state desk (index (now (directory .entry)) (now (originals .entry)) (now (replicas .entry))) l) (addOf (scaleOf (desk .numbers)) (shown (desk .numbers) (index (now (directory .entry)) (now (originals .entry)) (now (replicas .entry)))) t)) r (index (now (directory .exit)) (now (originals .exit)) (now (replicas .exit))) l (now (reply .entry)) (now (reply .exit))) ⌝ }
+    requires { ⌜ Room (desk .numbers) (now directory) (now reply) ⌝ }
+    ensures { λ r.
+        ⌜ ((l : List ℕ) → Done
+        (added (state desk (index (now (directory .entry)) (now (originals .entry)) (now (replicas .entry))) l) t) r
+        (index (now (directory .exit)) (now (originals .exit)) (now (replicas .exit))) l
+        (now (reply .entry)) (now (reply .exit))) ⌝ }
 {
     let numbers = desk.numbers;
     let n = directory_length(numbers.m);
     let outcome = edit::add(numbers, &mut directory[0..n], originals, replicas, t);
     let written = reply::put_outcome(reply, outcome);
-    Turned {
-        desk,
-        written,
-        more: true,
-    }
+    goes_on(desk, written)
 }
 
 // An X line.
@@ -116,18 +130,18 @@ fn remove_turn(
     replicas: &mut [u32],
     reply: &mut [u8],
 ) -> Turned
-    requires { ⌜ (desk .numbers .m ≤ deepestHere) × (directoryLength deepestHere ≤ length (now directory)) × (shortReply ≤ length (now reply)) ⌝ }
-    ensures { λ r. ⌜ ((l : List ℕ) → Done (edited (state desk (index (now (directory .entry)) (now (originals .entry)) (now (replicas .entry))) l) (removeOf (scaleOf (desk .numbers)) (shown (desk .numbers) (index (now (directory .entry)) (now (originals .entry)) (now (replicas .entry)))) id)) r (index (now (directory .exit)) (now (originals .exit)) (now (replicas .exit))) l (now (reply .entry)) (now (reply .exit))) ⌝ }
+    requires { ⌜ Room (desk .numbers) (now directory) (now reply) ⌝ }
+    ensures { λ r.
+        ⌜ ((l : List ℕ) → Done
+        (removed (state desk (index (now (directory .entry)) (now (originals .entry)) (now (replicas .entry))) l) id) r
+        (index (now (directory .exit)) (now (originals .exit)) (now (replicas .exit))) l
+        (now (reply .entry)) (now (reply .exit))) ⌝ }
 {
     let numbers = desk.numbers;
     let n = directory_length(numbers.m);
     let outcome = edit::remove(numbers, &mut directory[0..n], originals, replicas, id);
     let written = reply::put_outcome(reply, outcome);
-    Turned {
-        desk,
-        written,
-        more: true,
-    }
+    goes_on(desk, written)
 }
 
 // A Q line.
@@ -141,8 +155,13 @@ fn ask_turn(
     answers: &mut [u32],
     reply: &mut [u8],
 ) -> Turned
-    requires { ⌜ (desk .numbers .m ≤ deepestHere) × (directoryLength deepestHere ≤ length (now directory)) × (length (now answers) ≤ mostAnswers) × (shortReply + (mostDigits + 1) * mostAnswers ≤ length (now reply)) ⌝ }
-    ensures { λ r. ⌜ Done (answered (state desk (index (now (directory .entry)) (now (originals .entry)) (now (replicas .entry))) (now (answers .entry))) (askOf (scaleOf (desk .numbers)) (shown (desk .numbers) (index (now (directory .entry)) (now (originals .entry)) (now (replicas .entry)))) code window (now (answers .entry)))) r (index (now (directory .entry)) (now (originals .entry)) (now (replicas .entry))) (now (answers .exit)) (now (reply .entry)) (now (reply .exit)) ⌝ }
+    requires { ⌜ RoomToAnswer (desk .numbers) (now directory) (now answers) (now reply) ⌝ }
+    ensures { λ r.
+        ⌜ Done
+        (questioned (state desk (index (now (directory .entry)) (now (originals .entry)) (now (replicas .entry))) (now (answers .entry)))
+        code window) r
+        (index (now (directory .entry)) (now (originals .entry)) (now (replicas .entry))) (now (answers .exit))
+        (now (reply .entry)) (now (reply .exit)) ⌝ }
 {
     let numbers = desk.numbers;
     let n = directory_length(numbers.m);
@@ -157,27 +176,8 @@ fn ask_turn(
     );
     let outcome = asked.outcome;
     let count = asked.count as usize;
-    match outcome {
-        Outcome::Accepted => {
-            let listed = reply::put_answer(reply, &answers[0..count]);
-            return Turned {
-                desk,
-                written: listed,
-                more: true,
-            };
-        }
-        Outcome::Refused {
-            refusal: _,
-            detail: _,
-        } => {
-            let refused = reply::put_outcome(reply, outcome);
-            return Turned {
-                desk,
-                written: refused,
-                more: true,
-            };
-        }
-    }
+    let written = reply::put_answer(reply, outcome, &answers[0..count]);
+    goes_on(desk, written)
 }
 
 // A D line, which is the first: a second one is malformed, and so is one with too deep a level.
@@ -191,7 +191,11 @@ fn open_line(
     reply: &mut [u8],
 ) -> Turned
     requires { ⌜ (directoryLength deepestHere ≤ length (now directory)) × (shortReply ≤ length (now reply)) ⌝ }
-    ensures { λ r. ⌜ ((l : List ℕ) → Done (turnOf (state desk (index (now (directory .entry)) (now (originals .entry)) (now (replicas .entry))) l) (Ruler w m)) r (index (now (directory .exit)) (now (originals .exit)) (now (replicas .exit))) l (now (reply .entry)) (now (reply .exit))) ⌝ }
+    ensures { λ r.
+        ⌜ ((l : List ℕ) → Done
+        (turnOf (state desk (index (now (directory .entry)) (now (originals .entry)) (now (replicas .entry))) l) (Ruler w m)) r
+        (index (now (directory .exit)) (now (originals .exit)) (now (replicas .exit))) l
+        (now (reply .entry)) (now (reply .exit))) ⌝ }
 {
     if desk.started | (DEEPEST_HERE < m) {
         return bad_turn(desk, reply);
@@ -211,8 +215,12 @@ fn add_line(
     replicas: &mut [u32],
     reply: &mut [u8],
 ) -> Turned
-    requires { ⌜ (desk .numbers .m ≤ deepestHere) × (directoryLength deepestHere ≤ length (now directory)) × (shortReply ≤ length (now reply)) ⌝ }
-    ensures { λ r. ⌜ ((l : List ℕ) → Done (turnOf (state desk (index (now (directory .entry)) (now (originals .entry)) (now (replicas .entry))) l) (Add id start end)) r (index (now (directory .exit)) (now (originals .exit)) (now (replicas .exit))) l (now (reply .entry)) (now (reply .exit))) ⌝ }
+    requires { ⌜ Room (desk .numbers) (now directory) (now reply) ⌝ }
+    ensures { λ r.
+        ⌜ ((l : List ℕ) → Done
+        (turnOf (state desk (index (now (directory .entry)) (now (originals .entry)) (now (replicas .entry))) l) (Add id start end)) r
+        (index (now (directory .exit)) (now (originals .exit)) (now (replicas .exit))) l
+        (now (reply .entry)) (now (reply .exit))) ⌝ }
 {
     if !desk.started {
         return bad_turn(desk, reply);
@@ -234,8 +242,12 @@ fn remove_line(
     replicas: &mut [u32],
     reply: &mut [u8],
 ) -> Turned
-    requires { ⌜ (desk .numbers .m ≤ deepestHere) × (directoryLength deepestHere ≤ length (now directory)) × (shortReply ≤ length (now reply)) ⌝ }
-    ensures { λ r. ⌜ ((l : List ℕ) → Done (turnOf (state desk (index (now (directory .entry)) (now (originals .entry)) (now (replicas .entry))) l) (Remove id)) r (index (now (directory .exit)) (now (originals .exit)) (now (replicas .exit))) l (now (reply .entry)) (now (reply .exit))) ⌝ }
+    requires { ⌜ Room (desk .numbers) (now directory) (now reply) ⌝ }
+    ensures { λ r.
+        ⌜ ((l : List ℕ) → Done
+        (turnOf (state desk (index (now (directory .entry)) (now (originals .entry)) (now (replicas .entry))) l) (Remove id)) r
+        (index (now (directory .exit)) (now (originals .exit)) (now (replicas .exit))) l
+        (now (reply .entry)) (now (reply .exit))) ⌝ }
 {
     if !desk.started {
         return bad_turn(desk, reply);
@@ -255,8 +267,13 @@ fn ask_line(
     answers: &mut [u32],
     reply: &mut [u8],
 ) -> Turned
-    requires { ⌜ (desk .numbers .m ≤ deepestHere) × (directoryLength deepestHere ≤ length (now directory)) × (length (now answers) ≤ mostAnswers) × (shortReply + (mostDigits + 1) * mostAnswers ≤ length (now reply)) ⌝ }
-    ensures { λ r. ⌜ Done (turnOf (state desk (index (now (directory .entry)) (now (originals .entry)) (now (replicas .entry))) (now (answers .entry))) (Ask code start end)) r (index (now (directory .entry)) (now (originals .entry)) (now (replicas .entry))) (now (answers .exit)) (now (reply .entry)) (now (reply .exit)) ⌝ }
+    requires { ⌜ RoomToAnswer (desk .numbers) (now directory) (now answers) (now reply) ⌝ }
+    ensures { λ r.
+        ⌜ Done
+        (turnOf (state desk (index (now (directory .entry)) (now (originals .entry)) (now (replicas .entry))) (now (answers .entry)))
+        (Ask code start end)) r
+        (index (now (directory .entry)) (now (originals .entry)) (now (replicas .entry))) (now (answers .exit))
+        (now (reply .entry)) (now (reply .exit)) ⌝ }
 {
     if !desk.started {
         return bad_turn(desk, reply);
@@ -287,8 +304,13 @@ pub fn turn(
     answers: &mut [u32],
     reply: &mut [u8],
 ) -> Turned
-    requires { ⌜ (desk .numbers .m ≤ deepestHere) × (directoryLength deepestHere ≤ length (now directory)) × (length (now answers) ≤ mostAnswers) × (shortReply + (mostDigits + 1) * mostAnswers ≤ length (now reply)) ⌝ }
-    ensures { λ r. ⌜ Done (turnOf (state desk (index (now (directory .entry)) (now (originals .entry)) (now (replicas .entry))) (now (answers .entry))) (commandOf (now (line .entry)))) r (index (now (directory .exit)) (now (originals .exit)) (now (replicas .exit))) (now (answers .exit)) (now (reply .entry)) (now (reply .exit)) ⌝ }
+    requires { ⌜ RoomToAnswer (desk .numbers) (now directory) (now answers) (now reply) ⌝ }
+    ensures { λ r.
+        ⌜ Done
+        (turnOf (state desk (index (now (directory .entry)) (now (originals .entry)) (now (replicas .entry))) (now (answers .entry)))
+        (commandOf (now (line .entry)))) r
+        (index (now (directory .exit)) (now (originals .exit)) (now (replicas .exit))) (now (answers .exit))
+        (now (reply .entry)) (now (reply .exit)) ⌝ }
 {
     let command = text::command_of(line);
     match command {

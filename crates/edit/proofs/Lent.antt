@@ -1,42 +1,66 @@
--- An edit that is accepted, as what its halves ask: the index, and the cells of the trip's times.
-use mathlib.Core.Path.{_≡_, subst}
+-- An edit that is accepted, as what its halves ask: the index, and the cells of the trip's times. Each half is lent as the index has it;
+-- both, come back, are the whole index again.
+use mathlib.Core.Path.{_≡_}
 use mathlib.Core.Bool.{true}
 use mathlib.Core.List.{List, List·Memᴰ as Mem}
-use Prim.Native.Nat.{ℕ, _^_, _<_}
+use Prim.Native.Nat.{ℕ, _-_, _/_, _^_, _<_}
+use lib.ListN.{length}
+use borrow.Rule.Slice.PartMut.{putMid}
 use Rattle.lists.proofs.Tests.{to-T}
 use Rattle.ruler.specs.declared.Ruler.{Ruler}
-use Rattle.ruler.specs.Ruler.{inBounds, scale}
-use Rattle.ruler.proofs.Fair.{Fair, fair}
+use Rattle.ruler.specs.Ruler.{Scale, inBounds, scale}
+use Rattle.ruler.proofs.Fair.{fair}
 use Rattle.trip.specs.declared.Trip.{Trip}
 use Rattle.layout.specs.declared.Half.{Half}
+use Rattle.layout.specs.declared.Half.the-variants.{Originals, Replicas}
 use Rattle.layout.specs.declared.Outcome.the-variants.{Accepted}
-use Rattle.layout.specs.Words.{Index}
+use Rattle.layout.specs.Words.{Index, lengthsOf, layout}
 use Rattle.layout.specs.Refusals.{tableOf, addOutcome, removeOutcome}
+use Rattle.layout.specs.Calls.{index}
 use Rattle.layout.proofs.Partitions.{Fits}
 use Rattle.layout.proofs.Indexes.{Indexed}
 use Rattle.layout.proofs.Edited.{of-add, of-remove}
 use Rattle.edit.specs.Halves.{HalfOf, Adding, Removing}
+use Rattle.edit.proofs.Reading.{firstHalf, firstBack, secondHalf, first-of, second-of, both-of}
 
 -- the times of a trip that the ruler takes have cells of the scale
 pub cells-in : (r : Ruler) → inBounds (r .numbers) ≡ true → (t : Trip) → Fits (scale r) t
     → (scale r .cell (t .start) < 2 ^ scale r .m) × (scale r .cell (t .end) < 2 ^ scale r .m)
 cells-in r good t f = let w = fair (r .numbers) (to-T good) in (w .one-of (t .start) (f .starts), w .one-of (t .end) (f .ends))
 
-module _ (r : Ruler) (good : inBounds (r .numbers) ≡ true) (x : Index) (t : Trip) (a : addOutcome (scale r) x t ≡ Accepted) where
-  pub adding-index : Indexed (scale r) x
-  adding-index = of-add (scale r) x t a .is-index
+-- an edit of the index x: its words, as the halves of x, are what the edit of a half asks (Asks)
+pub record Edit (s : Scale) (x : Index) (Asks : Half → (dir arena : List ℕ) → Type 0) : Type 0 where
+  pub is-index : Indexed s x
+  pub ready : (half : Half) (dir arena : List ℕ) → HalfOf s half (tableOf s x) x dir arena → Asks half dir arena
 
-  pub adding : (half : Half) (dir arena : List ℕ) → HalfOf (scale r) half (tableOf (scale r) x) x dir arena → Adding (scale r) half x t dir arena
-  adding half dir arena w =
-      let c = cells-in r good t (of-add (scale r) x t a .rowOk .fits) in
-      record { accepted = a; start-in = c .0; end-in = c .1; words-are = w }
+pub adding : (r : Ruler) → inBounds (r .numbers) ≡ true → (x : Index) (t : Trip) → addOutcome (scale r) x t ≡ Accepted
+    → Edit (scale r) x (λ half dir arena. Adding (scale r) half x t dir arena)
+adding r good x t a =
+    let e = of-add (scale r) x t a in
+    let c = cells-in r good t (e .rowOk .fits) in
+    record {
+      is-index = e .is-index;
+      ready = λ half dir arena w. record { accepted = a; start-in = c .0; end-in = c .1; words-are = w };
+    }
 
-module _ (r : Ruler) (good : inBounds (r .numbers) ≡ true) (x : Index) (t : Trip) (a : removeOutcome (scale r) x (t .id) ≡ Accepted)
-    (m : Mem t (tableOf (scale r) x)) where
-  pub removing-index : Indexed (scale r) x
-  removing-index = of-remove (scale r) x (t .id) a .is-index
+pub removing : (r : Ruler) → inBounds (r .numbers) ≡ true → (x : Index) (t : Trip) → removeOutcome (scale r) x (t .id) ≡ Accepted
+    → Mem t (tableOf (scale r) x) → Edit (scale r) x (λ half dir arena. Removing (scale r) half x t dir arena)
+removing r good x t a m =
+    let e = of-remove (scale r) x (t .id) a .is-index in
+    let c = cells-in r good t (e .table .rowsOk .fits t m) in
+    record {
+      is-index = e;
+      ready = λ half dir arena w. record { accepted = a; start-in = c .0; end-in = c .1; present = m; words-are = w };
+    }
 
-  pub removing : (half : Half) (dir arena : List ℕ) → HalfOf (scale r) half (tableOf (scale r) x) x dir arena → Removing (scale r) half x t dir arena
-  removing half dir arena w =
-      let c = cells-in r good t (removing-index .table .rowsOk .fits t m) in
-      record { accepted = a; start-in = c .0; end-in = c .1; present = m; words-are = w }
+module _ (s : Scale) (x : Index) (Asks : Half → (dir arena : List ℕ) → Type 0) (e : Edit s x Asks) where
+  pub first-lent : Asks Originals (firstHalf x) (x .originals)
+  first-lent = e .ready _ _ _ (first-of s x (e .is-index))
+
+  module _ {ts : List Trip} {f o : List ℕ} (done : Asks Originals (firstHalf x) (x .originals) → HalfOf s Originals ts x f o) where
+    pub second-lent : Asks Replicas (secondHalf x f) (x .replicas)
+    second-lent = e .ready _ _ _ (second-of s x (e .is-index) _ _ _ (done first-lent))
+
+    pub both-back : {g r : List ℕ} → (Asks Replicas (secondHalf x f) (x .replicas) → HalfOf s Replicas ts x g r)
+        → index (putMid (length (x .directory) / 2) (length (x .directory) - length (x .directory) / 2) (firstBack x f) g) o r ≡ layout s ts (lengthsOf x)
+    both-back last = both-of s x (e .is-index) _ _ _ (done first-lent) _ _ (last second-lent)

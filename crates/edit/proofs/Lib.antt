@@ -1,5 +1,6 @@
 pub mod Halfway
 pub mod OneSlot
+pub mod Between
 pub mod Grown
 pub mod Shrunk
 pub mod Spotted
@@ -7,3 +8,4 @@ pub mod Reading
 pub mod Lent
 pub mod Chained
 pub mod Removed
+pub mod Opening

@@ -146,6 +146,16 @@ pub record Shown (s : Scale) (x : Index) : Type 0 where
   pub few : length (tableOf s x) ≤ mostTrips
   pub few-copies : length (entries s Replicas (tableOf s x)) ≤ mostTrips * mostPartitions
 
+-- the directory's first half as it is lent; the directory with f come back for it; and then its second half
+abbrev pub firstHalf : Index → List ℕ
+firstHalf x = take (length (x .directory) / 2 - 0) (x .directory)
+
+abbrev pub firstBack : Index → (f : List ℕ) → List ℕ
+firstBack x f = f ++ drop (length (x .directory) / 2 - 0) (drop 0 (x .directory))
+
+abbrev pub secondHalf : Index → (f : List ℕ) → List ℕ
+secondHalf x f = take (length (x .directory) - length (x .directory) / 2) (drop (length (x .directory) / 2) (firstBack x f))
+
 module _ (s : Scale) (x : Index) (h : Indexed s x) where
   -- the table is read off its own originals
   itself : tableOf s x ≡ entries s Originals (tableOf s x)
@@ -191,7 +201,7 @@ module _ (s : Scale) (x : Index) (h : Indexed s x) where
 
   -- ---- its halves, as an edit lends them
 
-  pub first-of : HalfOf s Originals (tableOf s x) x (take (length (x .directory) / 2 - 0) (x .directory)) (x .originals)
+  pub first-of : HalfOf s Originals (tableOf s x) x (firstHalf x) (x .originals)
   first-of = record {
     directory-is = take-first s (tableOf s x) (length (x .directory)) (directory-long s x h)
         (x .directory) (directory-are s x h);
@@ -203,9 +213,7 @@ module _ (s : Scale) (x : Index) (h : Indexed s x) where
     unfolding first-half
     long-f = ap length (w .directory-is) ∙ long-first s ts (length (x .directory)) (directory-long s x h)
 
-    pub second-of : HalfOf s Replicas (tableOf s x) x
-        (take (length (x .directory) - length (x .directory) / 2)
-        (drop (length (x .directory) / 2) (f ++ drop (length (x .directory) / 2 - 0) (drop 0 (x .directory))))) (x .replicas)
+    pub second-of : HalfOf s Replicas (tableOf s x) x (secondHalf x f) (x .replicas)
     second-of = record {
       directory-is = take-second s (tableOf s x) (length (x .directory)) (directory-long s x h) (x .directory) f (directory-are s x h) long-f;
       arena-is = replicas-are s x h;
@@ -213,9 +221,7 @@ module _ (s : Scale) (x : Index) (h : Indexed s x) where
 
     -- both halves back are the whole index of the trips
     pub both-of : (g r : List ℕ) → HalfOf s Replicas ts x g r
-        → index (putMid (length (x .directory) / 2) (length (x .directory) - length (x .directory) / 2) (f ++ drop (length
-        (x .directory) / 2 - 0) (drop 0 (x .directory))) g) o r
-        ≡ layout s ts (lengthsOf x)
+        → index (putMid (length (x .directory) / 2) (length (x .directory) - length (x .directory) / 2) (firstBack x f) g) o r ≡ layout s ts (lengthsOf x)
     unfolding layout lengthsOf
     both-of g r v =
         let d = put-both s ts (length (x .directory)) (directory-long s x h) (x .directory) f g refl long-f ∙ ap₂ _++_ (w .directory-is) (v .directory-is) in

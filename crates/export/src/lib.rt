@@ -1,6 +1,7 @@
 // What other languages link: one C function for each public entry, over numbers and slices. Each takes the entry's outcome apart into the
 // numbers of document 01, and does nothing else.
 use layout::Outcome;
+use layout::Refusal;
 use ruler::Numbers;
 use ruler::Time;
 use trip::Trip;
@@ -8,11 +9,12 @@ use trip::Window;
 use view::LEVELS;
 use view::SUBDIVISIONS;
 ghost use mathlib.Core.Path.{_≡_};
-ghost use mathlib.Core.List.{List};
-ghost use Prim.Native.Nat.{ℕ};
 ghost use lib.ListN.{length};
+ghost use Rattle.ruler.specs.Ruler.{scaleOf};
+ghost use Rattle.layout.specs.declared.Outcome.the-variants.{Accepted};
+ghost use Rattle.layout.specs.Refusals.{refusalNumber, runOutcome};
 ghost use Rattle.layout.specs.Calls.{index};
-ghost use Rattle.export.specs.Said.{saidOf, left, told, buildSaid, addSaid, removeSaid, checkSaid, askSaid, counted, censusSaid, arenaOf, runSaid};
+ghost use Rattle.export.specs.Said.{saidOf, left, told, buildSaid, addSaid, removeSaid, checkSaid, askSaid, counted, censusSaid, arenaOf, numbers, shown, runSaid};
 
 // The number of refusal, or 0, and its detail.
 #[repr(C)]
@@ -70,7 +72,9 @@ pub extern "C" fn kheyambo_build(
     originals: &mut [u32],
     replicas: &mut [u32],
 ) -> Said
-    ensures { λ r. ⌜ left r (index (now (directory .exit)) (now (originals .exit)) (now (replicas .exit))) ≡ buildSaid w m (now (table .entry)) (index (now (directory .entry)) (now (originals .entry)) (now (replicas .entry))) ⌝ }
+    ensures { λ r.
+        ⌜ left r (index (now (directory .exit)) (now (originals .exit)) (now (replicas .exit)))
+        ≡ buildSaid w m (now (table .entry)) (index (now (directory .entry)) (now (originals .entry)) (now (replicas .entry))) ⌝ }
 {
     in_numbers(build::build(Numbers { w, m }, table, directory, originals, replicas))
 }
@@ -99,7 +103,9 @@ pub extern "C" fn kheyambo_add(
     originals: &mut [u32],
     replicas: &mut [u32],
 ) -> Said
-    ensures { λ r. ⌜ left r (index (now (directory .exit)) (now (originals .exit)) (now (replicas .exit))) ≡ addSaid w m id start end (index (now (directory .entry)) (now (originals .entry)) (now (replicas .entry))) ⌝ }
+    ensures { λ r.
+        ⌜ left r (index (now (directory .exit)) (now (originals .exit)) (now (replicas .exit)))
+        ≡ addSaid w m id start end (index (now (directory .entry)) (now (originals .entry)) (now (replicas .entry))) ⌝ }
 {
     let t = Trip {
         id,
@@ -118,7 +124,9 @@ pub extern "C" fn kheyambo_remove(
     originals: &mut [u32],
     replicas: &mut [u32],
 ) -> Said
-    ensures { λ r. ⌜ left r (index (now (directory .exit)) (now (originals .exit)) (now (replicas .exit))) ≡ removeSaid w m id (index (now (directory .entry)) (now (originals .entry)) (now (replicas .entry))) ⌝ }
+    ensures { λ r.
+        ⌜ left r (index (now (directory .exit)) (now (originals .exit)) (now (replicas .exit)))
+        ≡ removeSaid w m id (index (now (directory .entry)) (now (originals .entry)) (now (replicas .entry))) ⌝ }
 {
     in_numbers(edit::remove(Numbers { w, m }, directory, originals, replicas, id))
 }
@@ -135,7 +143,9 @@ pub extern "C" fn kheyambo_ask(
     replicas: &[u32],
     answers: &mut [u32],
 ) -> Told
-    ensures { λ r. ⌜ told r (now (answers .exit)) ≡ askSaid w m code start end (index (now (directory .entry)) (now (originals .entry)) (now (replicas .entry))) (now (answers .entry)) ⌝ }
+    ensures { λ r.
+        ⌜ told r (now (answers .exit))
+        ≡ askSaid w m code start end (index (now (directory .entry)) (now (originals .entry)) (now (replicas .entry))) (now (answers .entry)) ⌝ }
 {
     let window = Window {
         start: Time::at(start),
@@ -168,12 +178,67 @@ pub extern "C" fn kheyambo_census(
     replicas: &[u32],
     counts: &mut [[u32; SUBDIVISIONS]; LEVELS],
 ) -> Said
-    ensures { λ r. ⌜ counted r (now (counts .exit)) ≡ censusSaid w m (index (now (directory .entry)) (now (originals .entry)) (now (replicas .entry))) ⌝ }
+    ensures { λ r.
+        ⌜ counted r (now (counts .exit))
+        ≡ censusSaid w m (index (now (directory .entry)) (now (originals .entry)) (now (replicas .entry))) ⌝ }
 {
     let outcome = view::census_outcome(Numbers { w, m }, directory, originals, replicas);
     let rows = view::census(Numbers { w, m }, directory, originals, replicas);
     *counts = rows;
     in_numbers(outcome)
+}
+
+// Where an accepted run stands in the arenas.
+fn run_place<'a>(
+    w: u32,
+    m: u32,
+    level: u32,
+    partition: u32,
+    subdivision: u32,
+    directory: &[u32],
+    originals: &'a [u32],
+    replicas: &'a [u32],
+) -> Shown
+    requires { ⌜ runOutcome (scaleOf (numbers w m)) (index (now directory) (now originals) (now replicas)) level partition subdivision ≡ Accepted ⌝ }
+    ensures { λ r. ⌜ r ≡ runSaid w m level partition subdivision (index (now (directory .entry)) (now (originals .entry)) (now (replicas .entry))) ⌝ }
+{
+    let offset = view::run_from(
+        Numbers { w, m },
+        directory,
+        originals,
+        replicas,
+        level,
+        partition,
+        subdivision,
+    ) as u32;
+    let part = view::run(
+        Numbers { w, m },
+        directory,
+        originals,
+        replicas,
+        level,
+        partition,
+        subdivision,
+    );
+    let length = part.len() as u32;
+    Shown {
+        number: 0,
+        arena: arena_of(subdivision),
+        offset,
+        length,
+    }
+}
+
+// A refused run: an empty part of the originals.
+fn refused_run(refusal: Refusal) -> Shown
+    ensures { λ r. ⌜ r ≡ shown (refusalNumber refusal) 0 0 0 ⌝ }
+{
+    Shown {
+        number: layout::refusal_number(refusal),
+        arena: 0,
+        offset: 0,
+        length: 0,
+    }
 }
 
 // A run: where it stands in the arenas, and nothing copied.
@@ -190,27 +255,8 @@ pub extern "C" fn kheyambo_run<'a>(
 ) -> Shown
     ensures { λ r. ⌜ r ≡ runSaid w m level partition subdivision (index (now (directory .entry)) (now (originals .entry)) (now (replicas .entry))) ⌝ }
 {
-    let numbers = Numbers { w, m };
     let outcome = view::run_outcome(
-        numbers,
-        directory,
-        originals,
-        replicas,
-        level,
-        partition,
-        subdivision,
-    );
-    let from = view::run_from(
-        numbers,
-        directory,
-        originals,
-        replicas,
-        level,
-        partition,
-        subdivision,
-    );
-    let part = view::run(
-        numbers,
+        Numbers { w, m },
         directory,
         originals,
         replicas,
@@ -219,17 +265,16 @@ pub extern "C" fn kheyambo_run<'a>(
         subdivision,
     );
     match outcome {
-        Outcome::Accepted => Shown {
-            number: 0,
-            arena: arena_of(subdivision),
-            offset: from as u32,
-            length: part.len() as u32,
-        },
-        Outcome::Refused { refusal, detail: _ } => Shown {
-            number: layout::refusal_number(refusal),
-            arena: 0,
-            offset: 0,
-            length: 0,
-        },
+        Outcome::Accepted => run_place(
+            w,
+            m,
+            level,
+            partition,
+            subdivision,
+            directory,
+            originals,
+            replicas,
+        ),
+        Outcome::Refused { refusal, detail: _ } => refused_run(refusal),
     }
 }

@@ -73,7 +73,25 @@ fn line_done(
     }
 }
 
-// A byte of the input: it ends a line, or the line goes on. What a line has past the bytes that are kept changes nothing.
+// A byte of a line that goes on. What a line has past the bytes that are kept changes nothing.
+fn keep_byte(standing: Standing, byte: u8, line: &mut [u8; LINE]) -> Standing
+    requires { do ⌜ (standing .desk .numbers .m ≤ deepestHere) × (standing .held ≤ (← ⟦LINE⟧)) ⌝ }
+    ensures { λ r. do ⌜ (r .desk .numbers .m ≤ deepestHere) × (r .held ≤ (← ⟦LINE⟧ .entry)) ⌝ }
+{
+    let desk = standing.desk;
+    let mut held = standing.held;
+    if held < LINE {
+        line[held] = byte;
+        held += 1;
+    }
+    Standing {
+        desk,
+        held,
+        more: true,
+    }
+}
+
+// A byte of the input: it ends a line, or the line goes on.
 fn take_byte(
     standing: Standing,
     byte: u8,
@@ -87,13 +105,11 @@ fn take_byte(
     requires { do ⌜ (standing .desk .numbers .m ≤ deepestHere) × (standing .held ≤ (← ⟦LINE⟧)) ⌝ }
     ensures { λ r. do ⌜ (r .desk .numbers .m ≤ deepestHere) × (r .held ≤ (← ⟦LINE⟧ .entry)) ⌝ }
 {
-    let desk = standing.desk;
-    let held = standing.held;
     if byte == b'\n' {
         return line_done(
-            desk,
+            standing.desk,
             line,
-            held,
+            standing.held,
             directory,
             originals,
             replicas,
@@ -101,19 +117,7 @@ fn take_byte(
             reply,
         );
     }
-    if held < LINE {
-        line[held] = byte;
-        return Standing {
-            desk,
-            held: held + 1,
-            more: true,
-        };
-    }
-    Standing {
-        desk,
-        held,
-        more: true,
-    }
+    keep_byte(standing, byte, line)
 }
 
 // What was read at once, byte by byte. After a line that ends the session nothing more is looked at.

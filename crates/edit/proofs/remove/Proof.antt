@@ -1,13 +1,11 @@
 -- What the check refuses is refused; the rest is the edit of words that are an index.
-use mathlib.Core.Path.{sym, ap, _∙_}
-use borrow.Author.Tests.{not-true, not-false}
+use mathlib.Core.Path.{sym, _∙_}
+use borrow.Author.Tests.{not-true}
 use Rattle.ruler.specs.Ruler.{scaleOf}
-use Rattle.ruler.proofs.Judging.{judged-good, judged-out}
-use Rattle.layout.specs.Refusals.{isAccepted}
+use Rattle.ruler.proofs.Judging.{judged-good}
 use Rattle.layout.specs.Calls.{index}
-use Rattle.layout.proofs.Chains.{refused-not}
-use Rattle.layout.proofs.Checked.{check-bounds}
-use Rattle.edit.proofs.Chained.{is-accepted, remove-unchecked, remove-refused}
+use Rattle.edit.proofs.Chained.{remove-unchecked}
+use Rattle.edit.proofs.Opening.{not-out, opening}
 use native.Mathlib.Omega.{arith}
 use borrow.Author.Needs.{needs}
 use Rattle.edit.proofs.remove.Statement.{statement}
@@ -30,12 +28,10 @@ same-length-3 c = search needs
 
 returns : tie.Need-returns
 returns c =
-    let g = c .before .before .before .before .before .before .before .before .before in
-    let s = scaleOf (g .args .numbers) in
-    let x = index (g .args .directory .now) (g .args .originals .now) (g .args .replicas .now) in
+    let a = c .before .before .before .before .before .before .before .before .before .args in
+    let x = index (a .directory .now) (a .originals .now) (a .replicas .now) in
     let not-taken = sym (c .before .is-accepted .ensures) ∙ not-true _ (c .if1 .taken) in
-    let is = c .before .before .check .ensures in
-    remove-refused s x (g .args .id) _ not-taken (is ∙ remove-unchecked s x (g .args .id) (sym (ap isAccepted is) ∙ not-taken))
+    remove-unchecked (scaleOf (a .numbers)) x (a .id) _ (c .before .before .check .ensures) not-taken
 
 new-requires : tie.Need-new-requires
 new-requires c κs = search needs
@@ -59,29 +55,17 @@ same-length-6 : tie.Need-same-length-6
 same-length-6 c = search needs
 
 returns-2 : tie.Need-returns-2
-unfolding scaleOf
 returns-2 c =
-    let g = c .before .before .before .before .before .before .before .before .before .before .before .before .before in
-    let s = scaleOf (g .args .numbers) in
-    let x = index (g .args .directory .now) (g .args .originals .now) (g .args .replicas .now) in
-    let taken = is-accepted _ (sym (c .before .before .before .before .before .is-accepted .ensures)
-    ∙ not-false _ (c .before .before .before .before .if1 .left)) in
-    let out = judged-out _ (sym (c .before .before .before .new .ensures) ∙ c .before .enum-told .given .1) in
-    refused-not _ _ (check-bounds s x out ∙ sym (c .before .before .before .before .before .before .check .ensures) ∙ taken)
+    let a = c .before .before .before .before .before .before .before .before .before .before .before .before .before .args in
+    let x = index (a .directory .now) (a .originals .now) (a .replicas .now) in
+    not-out (a .numbers) x (c .before .before .before .before .before .before .check .ensures) (c .before .before .before .before .before .is-accepted .ensures) (c .before .before .before .before .if1 .left) (c .before .before .before .new .ensures) (c .before .enum-told .given .1)
 
 remove-checked-requires : tie.Need-remove-checked-requires
 remove-checked-requires c κs =
-    let g = c .before .before .before .before .before .before .before .before .before .before .before .before .before .before .before .before in
-    let s = scaleOf (g .args .numbers) in
-    let x = index (g .args .directory .now) (g .args .originals .now) (g .args .replicas .now) in
+    let a = c .before .before .before .before .before .before .before .before .before .before .before .before .before .before .before .before .args in
+    let x = index (a .directory .now) (a .originals .now) (a .replicas .now) in
     let ruler = c .before .before .before .before .ruler .given in
-    let made = judged-good _ (ruler .0 .0) (sym (c .before .before .before .before .before .before .new .ensures) ∙ ruler .1) in
-    let taken = is-accepted _ (sym (c .before .before .before .before .before .before .before .before .is-accepted .ensures)
-    ∙ not-false _ (c .before .before .before .before .before .before .before .if1 .left)) in (
-      rw (made .numbers) (made .good),
-      rw (made .numbers) (sym
-          (c .before .before .before .before .before .before .before .before .before .check .ensures) ∙ taken),
-    )
+    opening (a .numbers) x (c .before .before .before .before .before .before .before .before .before .check .ensures) (c .before .before .before .before .before .before .before .before .is-accepted .ensures) (c .before .before .before .before .before .before .before .if1 .left) (ruler .0 .0) (c .before .before .before .before .before .before .new .ensures) (ruler .1)
 
 same-length-7 : tie.Need-same-length-7
 same-length-7 c = search needs

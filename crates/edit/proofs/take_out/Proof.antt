@@ -1,8 +1,6 @@
 -- Each half is lent as the index has it; both, come back, are the whole index again.
-use Rattle.ruler.specs.Ruler.{scale}
 use Rattle.layout.specs.Calls.{index}
-use Rattle.edit.proofs.Reading.{first-of, second-of, both-of}
-use Rattle.edit.proofs.Lent.{removing-index, removing}
+use Rattle.edit.proofs.Lent.{removing, first-lent, second-lent, both-back}
 use native.Mathlib.Omega.{arith}
 use borrow.Author.Needs.{needs}
 use Rattle.edit.proofs.take_out.Statement.{statement}
@@ -21,9 +19,8 @@ remove-half-requires : tie.Need-remove-half-requires
 remove-half-requires c κs =
     let s = c .before .before .before .before .before in
     let x = index (s .args .directory .now) (s .args .originals .now) (s .args .replicas .now) in
-    let ix = removing-index (s .args .ruler) (s .pre .0) x (s .args .t) (s .pre .1 .0) (s .pre .1 .1) in
-    let ready = removing (s .args .ruler) (s .pre .0) x (s .args .t) (s .pre .1 .0) (s .pre .1 .1) in
-    (s .pre .0, (x, ready _ _ _ (first-of (scale (s .args .ruler)) x ix)))
+    let e = removing (s .args .ruler) (s .pre .0) x (s .args .t) (s .pre .1 .0) (s .pre .1 .1) in
+    (s .pre .0, (x, first-lent _ _ _ e))
 
 mul-remove-half : tie.Need-mul-remove-half
 mul-remove-half c = search needs
@@ -41,10 +38,8 @@ remove-half-requires-2 : tie.Need-remove-half-requires-2
 remove-half-requires-2 c κs =
     let s = c .before .before .before .before .before .before .before .before .before .before .before .before in
     let x = index (s .args .directory .now) (s .args .originals .now) (s .args .replicas .now) in
-    let ix = removing-index (s .args .ruler) (s .pre .0) x (s .args .t) (s .pre .1 .0) (s .pre .1 .1) in
-    let ready = removing (s .args .ruler) (s .pre .0) x (s .args .t) (s .pre .1 .0) (s .pre .1 .1) in
-    let done = c .before .before .before .before .before .before .remove-half .ensures x (ready _ _ _ (first-of (scale (s .args .ruler)) x ix)) in
-    (s .pre .0, (x, ready _ _ _ (second-of (scale (s .args .ruler)) x ix _ _ _ done)))
+    let e = removing (s .args .ruler) (s .pre .0) x (s .args .t) (s .pre .1 .0) (s .pre .1 .1) in
+    (s .pre .0, (x, second-lent _ _ _ e (c .before .before .before .before .before .before .remove-half .ensures x)))
 
 same-length : tie.Need-same-length
 same-length c = search needs
@@ -59,12 +54,8 @@ returns : tie.Need-returns
 returns c =
     let s = c .before .before .before .before .before .before .before .before .before .before .before .before .before .before .before .before .before in
     let x = index (s .args .directory .now) (s .args .originals .now) (s .args .replicas .now) in
-    let ix = removing-index (s .args .ruler) (s .pre .0) x (s .args .t) (s .pre .1 .0) (s .pre .1 .1) in
-    let ready = removing (s .args .ruler) (s .pre .0) x (s .args .t) (s .pre .1 .0) (s .pre .1 .1) in
-    let done = c .before .before .before .before .before .before .before .before .before .before .before .remove-half .ensures x (ready _ _ _
-    (first-of (scale (s .args .ruler)) x ix)) in
-    let last = c .before .before .before .before .remove-half2 .ensures x (ready _ _ _ (second-of (scale (s .args .ruler)) x ix _ _ _ done)) in
-    both-of (scale (s .args .ruler)) x ix _ _ _ done _ _ last
+    let e = removing (s .args .ruler) (s .pre .0) x (s .args .t) (s .pre .1 .0) (s .pre .1 .1) in
+    both-back _ _ _ e (c .before .before .before .before .before .before .before .before .before .before .before .remove-half .ensures x) (c .before .before .before .before .remove-half2 .ensures x)
 
 pub take-out-spec : {M : Type 1} → statement M
 take-out-spec =

@@ -1,62 +1,45 @@
--- The count, the ids and a newline, one after another.
-use Rattle.dialogue.specs.Reply.{asLine, listBytes, idBytes}
-use mathlib.Core.Path.{_≡_, refl, ap, _∙_}
-use mathlib.Core.List.{[], _∷_, append-assoc}
-use Prim.Native.Nat.{_+_, _≤_}
-use lib.ListN.{length}
-use lib.Seq.{length-sets}
-use Rattle.text.specs.Bytes.{newline}
-use Rattle.text.specs.Decimal.{decimal}
-use Rattle.text.proofs.Writing.{ten-digits}
-use Rattle.dialogue.proofs.Replies.{three-puts}
+-- The ids of an accepted question, or its refusal.
+use Rattle.dialogue.specs.Reply.{answerBytes}
 use native.Mathlib.Omega.{arith}
 use borrow.Author.Needs.{needs}
 use Rattle.dialogue.proofs.reply.put_answer.Statement.{statement}
 use Rattle.dialogue.proofs.reply.put_answer.Tie as tie
 
-cast-put-number : tie.Need-cast-put-number
-cast-put-number c = search needs
+enum-told : tie.Need-enum-told
+enum-told c = search needs
 
-put-number-requires : tie.Need-put-number-requires
-put-number-requires c κs = search needs
+put-list-requires : tie.Need-put-list-requires
+put-list-requires c κs = search needs
 
-put-ids-requires : tie.Need-put-ids-requires
-put-ids-requires c κs =
-    let n = c .before .before .before .put-number .ensures in
-    let few = ten-digits (length (c .before .before .before .before .before .before .before .args .ids .now)) (omega arith) in
-    let long : length (c .before .before .before .put-number .last .0) ≡ length (c .before .before .before .before .before .before .before .args .reply .now) = ap length (n .1) ∙ simp length-sets in
-    omega (arith, n .0)
+enum-told-2 : tie.Need-enum-told-2
+enum-told-2 c = search needs
 
-slice-aggregate-put : tie.Need-slice-aggregate-put
-slice-aggregate-put c = search needs
-
-put-requires : tie.Need-put-requires
-put-requires c κs =
-    let n = c .before .before .before .before .before .before .before .before .put-number .ensures in
-    let l = c .before .before .before .before .put-ids .ensures in
-    let few = ten-digits (length (c .before .before .before .before .before .before .before .before .before .before .before .before .args .ids .now)) (omega arith) in
-    let long : length (c .before .before .before .before .put-ids .last .0) ≡ length (c .before .before .before .before .before .before .before .before .before .before .before .before .args .reply .now) = ap length (l .1) ∙ simp length-sets (ap length (n .1) ∙ simp length-sets) in
-    omega (arith, n .0, l .2)
+put-outcome-requires : tie.Need-put-outcome-requires
+put-outcome-requires c κs = search needs
 
 same-length : tie.Need-same-length
 same-length c = search needs
 
 returns : tie.Need-returns
-unfolding asLine listBytes
-returns c =
-    let ids = c .before .before .before .before .before .before .before .before .before .before .before .before .before .before .before .args .ids .now in
-    let l = c .before .before .before .before .before .before .before .put-ids .ensures in
-    let three = three-puts (c .before .before .before .before .before .before .before .before .before .before .before .before .before .before .before .args .reply .now) (decimal (length ids)) (idBytes ids) (newline ∷ []) (c .before .before .before .before .before .before .before .before .before .before .before .put-number .ensures) (l .0, l .1) (c .before .before .put .ensures) in
-    rw (← append-assoc (decimal (length ids)) (idBytes ids) (newline ∷ [])) at three
+unfolding answerBytes
+returns c = rw (c .before .before .before .before .enum-told .given .1) (c .before .before .put-list .ensures)
+
+same-length-2 : tie.Need-same-length-2
+same-length-2 c = search needs
+
+returns-2 : tie.Need-returns-2
+unfolding answerBytes
+returns-2 c = let given = c .before .before .before .before .enum-told2 .given in rw (given .1) (rw (given .1) at (c .before .before .put-outcome .ensures))
 
 pub put-answer-spec : {M : Type 1} → statement M
 put-answer-spec =
     tie.close
     (tie.spec
-    cast-put-number
-    put-number-requires
-    put-ids-requires
-    slice-aggregate-put
-    put-requires
+    enum-told
+    put-list-requires
+    enum-told-2
+    put-outcome-requires
     same-length
-    returns)
+    returns
+    same-length-2
+    returns-2)

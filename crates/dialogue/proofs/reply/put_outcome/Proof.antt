@@ -1,8 +1,7 @@
 -- The word, the number and a newline, one after another.
 use Rattle.dialogue.specs.Reply.{asLine, outcomeBytes, okBytes, refusedBytes}
-use mathlib.Core.Path.{_≡_, refl, ap, _∙_}
+use mathlib.Core.Path.{_≡_, ap, _∙_}
 use mathlib.Core.List.{[], _∷_, _++_}
-use Prim.Native.Nat.{_+_, _≤_}
 use lib.ListN.{length}
 use lib.Seq.{length-sets}
 use Rattle.text.specs.Bytes.{space, newline}

@@ -1,10 +1,6 @@
--- The index of an empty table, in the part of the directory that its levels use.
-use borrow.Rule.Slice.PartMut.{mid-len}
-use lib.ListN.{length}
-use mathlib.Core.Path.{_≡_, refl}
 -- The front of the directory is built and put back, and the outcome is written.
-use Rattle.dialogue.proofs.Turns.{fits, opened-done}
-use native.Mathlib.Nat.{le-trans}
+use mathlib.Core.Path.{refl}
+use Rattle.dialogue.proofs.Turns.{in-front, opened-done}
 use native.Mathlib.Omega.{arith}
 use borrow.Author.Needs.{needs}
 use Rattle.dialogue.proofs.turn.open_turn.Statement.{statement}
@@ -29,7 +25,9 @@ part-build-start-2 : tie.Need-part-build-start-2
 part-build-start-2 c = search needs
 
 part-build-end-2 : tie.Need-part-build-end-2
-part-build-end-2 c = rw (c .before .before .directory-length .ensures) (le-trans (fits (c .before .before .before .before .before .before .before .args .numbers .m) (c .before .before .before .before .before .before .before .pre .0)) (c .before .before .before .before .before .before .before .pre .1))
+part-build-end-2 c =
+    let g = c .before .before .before .before .before .before .before in
+    in-front (g .args .numbers) (g .args .directory .now) (c .before .before .directory-length .ensures) (g .pre .0) (g .pre .1)
 
 build-requires : tie.Need-build-requires
 build-requires c κs = search needs
@@ -54,12 +52,11 @@ same-length-4 c = search needs
 
 returns : tie.Need-returns
 returns c =
-    let a = c .before .before .before .before .before .before .before .before .before .before .before .before .before .before .before .before .before .before .before .before .before .before .args in
-    let n = c .before .before .before .before .before .before .before .before .before .before .before .before .before .before .before .before .before .directory-length .result in
-    let long = le-trans (fits (a .numbers .m) (c .before .before .before .before .before .before .before .before .before .before .before .before .before .before .before .before .before .before .before .before .before .before .pre .0)) (c .before .before .before .before .before .before .before .before .before .before .before .before .before .before .before .before .before .before .before .before .before .before .pre .1) in
-    let lent = mid-len 0 n (a .directory .now) (rw (c .before .before .before .before .before .before .before .before .before .before .before .before .before .before .before .before .before .directory-length .ensures) long) in
-    let kept : length (c .before .before .before .before .before .before .before .before .before .before .before .build .last .1 .1 .0) ≡ n = omega (arith, lent, c .before .before .before .before .before .before .before .before .before .before .directory .given) in
-    λ l. opened-done (a .numbers) (a .directory .now) (a .originals .now) (a .replicas .now) n (a .desk) l (c .before .before .before .before .before .before .before .before .before .before .before .before .before .before .before .before .before .directory-length .ensures) kept refl (c .before .before .before .before .before .before .before .before .before .before .before .build .ensures) (c .is-accepted .ensures) (c .before .before .before .put-outcome .ensures)
+    let g = c .before .before .before .before .before .before .before .before .before .before .before .before .before .before .before .before .before .before .before .before .before .before in
+    let a = g .args in
+    let n = c .before .before .before .before .before .before .before .before .before .before .before .before .before .before .before .before .before .directory-length in
+    λ l. opened-done (a .numbers) (a .directory .now) (a .originals .now) (a .replicas .now) (n .result) (n .ensures) (g .pre .0) (g .pre .1)
+    (a .desk) l (c .before .before .before .before .before .before .before .before .before .before .before .build .ensures) refl (c .before .before .before .before .before .before .before .before .before .before .directory .given .0) (c .is-accepted .ensures) (c .before .before .before .put-outcome .ensures)
 
 pub open-turn-spec : {M : Type 1} → statement M
 open-turn-spec =

@@ -2,19 +2,18 @@
 use mathlib.Core.Path.{_≡_, refl, sym, ap, _∙_}
 use mathlib.Core.Bool.{true, false}
 use mathlib.Core.List.{List}
-use Prim.Native.Nat.{ℕ, _+_, _-_, _*_}
-use lib.Dec.{leb, ltb}
+use Prim.Native.Nat.{ℕ, _-_, _*_}
+use lib.Dec.{leb}
 use lib.ListN.{length, take}
 use borrow.Author.Tests.{le-leb, lt-leb, not-true, not-false}
 use Rattle.ruler.specs.Ruler.{scale, mostTrips}
 use Rattle.trip.specs.declared.Trip.{Trip}
-use Rattle.layout.specs.declared.Half.the-variants.{Originals, Replicas}
 use Rattle.layout.specs.declared.Outcome.the-variants.{Accepted}
-use Rattle.layout.specs.Words.{entryWords, rows, directoryLength, entries}
+use Rattle.layout.specs.Words.{entryWords, rows, directoryLength, Index}
 use Rattle.layout.specs.Refusals.{isAccepted, refuse, rowTests, tableOf}
 use Rattle.layout.specs.Calls.{index}
-use Rattle.layout.specs.Walk.{slotsOfTrip}
 use Rattle.layout.proofs.Checked.{checked}
+use Rattle.layout.proofs.Tables.{RowOk}
 use Rattle.edit.proofs.Reading.{Shown, shown}
 use Rattle.edit.proofs.Chained.{add-full, add-row, add-room, row-taken}
 use Rattle.edit.proofs.Lent.{cells-in}
@@ -23,9 +22,33 @@ use borrow.Author.Needs.{needs}
 use Rattle.edit.proofs.tests.add_outcome.Statement.{statement}
 use Rattle.edit.proofs.tests.add_outcome.Tie as tie
 
+abbrev words : tie.Start → Index
+words g = index (g .args .directory .now) (g .args .originals .now) (g .args .replicas .now)
+
+abbrev trips : tie.Start → List Trip
+trips g = tableOf (scale (g .args .ruler)) (words g)
+
 -- what the requires says of the words
-in-index : (s : tie.Start) → Shown (scale (s .args .ruler)) (index (s .args .directory .now) (s .args .originals .now) (s .args .replicas .now))
-in-index s = shown _ _ (checked _ _ (s .pre .1))
+in-index : (g : tie.Start) → Shown (scale (g .args .ruler)) (words g)
+in-index g = shown _ _ (checked _ _ (g .pre .1))
+
+-- past the first test: there may be one more trip
+few : (c : tie.Else1) → leb mostTrips (length (trips (c .before .before .before .before .before .before))) ≡ false
+few c = let g = c .before .before .before .before .before .before in lt-leb mostTrips (length (trips g)) (omega (arith, in-index g .trips, c .if1 .left))
+
+-- the outcome of the trip's tests among the trips of the index
+row-is : (c : tie.After-is-accepted) → c .before .trip-outcome .result
+    ≡ rowTests (scale (c .before .before .before .before .before .before .before .before .before .args .ruler)) (trips (c .before .before .before .before .before .before .before .before .before)) (c .before .before .before .before .before .before .before .before .before .args .t) 0 Accepted
+unfolding entryWords
+row-is c =
+    let g = c .before .before .before .before .before .before .before .before .before in
+    let w = in-index g in
+    let read = ap (λ (k : ℕ). rows (take (entryWords * k - 0) (words g .originals))) (w .trips) ∙ w .listed in
+    c .before .trip-outcome .ensures ∙ ap (λ (l : List Trip). rowTests (scale (g .args .ruler)) l (g .args .t) 0 Accepted) read
+
+-- past the second: the trip passes them
+row-ok : (c : tie.Else2) → RowOk (scale (c .before .before .before .before .before .before .before .before .before .before .args .ruler)) (trips (c .before .before .before .before .before .before .before .before .before .before)) (c .before .before .before .before .before .before .before .before .before .before .args .t)
+row-ok c = row-taken _ _ _ _ (row-is (c .before)) (sym (c .before .is-accepted .ensures) ∙ not-false _ (c .if2 .left))
 
 sub-trips : tie.Need-sub-trips
 unfolding directoryLength
@@ -64,14 +87,9 @@ returns : tie.Need-returns
 unfolding entryWords refuse
 returns c =
     let g = c .before .before .before .before .before .before .before in
-    let t = g .args .t in
-    let r = g .args .ruler in
-    let s = scale r in
-    let x = index (g .args .directory .now) (g .args .originals .now) (g .args .replicas .now) in
     let w = in-index g in
-    let full : leb mostTrips (length (tableOf s x)) ≡ true = le-leb mostTrips (length (tableOf s x)) (omega
-    (arith, w .trips, c .before .if1 .taken)) in
-    c .refused .ensures ∙ sym (add-full s x t (g .pre .1) w true full)
+    let full : leb mostTrips (length (trips g)) ≡ true = le-leb mostTrips (length (trips g)) (omega (arith, w .trips, c .before .if1 .taken)) in
+    c .refused .ensures ∙ sym (add-full (scale (g .args .ruler)) (words g) (g .args .t) (g .pre .1) w true full)
 
 mul-used : tie.Need-mul-used
 mul-used c = search needs
@@ -96,34 +114,16 @@ returns-2 : tie.Need-returns-2
 unfolding entryWords refuse
 returns-2 c =
     let g = c .before .before .before .before .before .before .before .before .before .before in
-    let t = g .args .t in
-    let r = g .args .ruler in
-    let s = scale r in
-    let x = index (g .args .directory .now) (g .args .originals .now) (g .args .replicas .now) in
-    let w = in-index g in
-    let few : leb mostTrips (length (tableOf s x)) ≡ false = lt-leb mostTrips (length (tableOf s x)) (omega
-    (arith, w .trips, c .before .before .before .before .if1 .left)) in
-    let read = ap (λ (k : ℕ). rows (take (entryWords * k - 0) (x .originals))) (w .trips) ∙ w .listed in
-    let is = c .before .before .trip-outcome .ensures ∙ ap (λ (l : List Trip). rowTests s l t 0 Accepted) read in
-    let no = sym (c .before .is-accepted .ensures) ∙ not-true _ (c .if2 .taken) in
-    is ∙ sym (add-row s x t (g .pre .1) w few (sym (ap isAccepted is) ∙ no))
+    let is = row-is (c .before) in
+    let not-taken = sym (ap isAccepted is) ∙ sym (c .before .is-accepted .ensures) ∙ not-true _ (c .if2 .taken) in
+    is ∙ sym (add-row (scale (g .args .ruler)) (words g) (g .args .t) (g .pre .1) (in-index g) (few (c .before .before .before .before)) not-taken)
 
 lacks-room-requires : tie.Need-lacks-room-requires
 unfolding entryWords refuse
 lacks-room-requires c κs =
     let g = c .before .before .before .before .before .before .before .before .before .before in
-    let t = g .args .t in
-    let r = g .args .ruler in
-    let s = scale r in
-    let x = index (g .args .directory .now) (g .args .originals .now) (g .args .replicas .now) in
-    let w = in-index g in
-    let few : leb mostTrips (length (tableOf s x)) ≡ false = lt-leb mostTrips (length (tableOf s x)) (omega
-    (arith, w .trips, c .before .before .before .before .if1 .left)) in
-    let read = ap (λ (k : ℕ). rows (take (entryWords * k - 0) (x .originals))) (w .trips) ∙ w .listed in
-    let is = c .before .before .trip-outcome .ensures ∙ ap (λ (l : List Trip). rowTests s l t 0 Accepted) read in
-    let ok = row-taken s (tableOf s x) t _ is (sym (c .before .is-accepted .ensures) ∙ not-false _ (c .if2 .left)) in
-    let cells = cells-in r (g .pre .0) t (ok .fits) in
-    (g .pre .0, (cells .0, cells .1, omega (arith, w)))
+    let cells = cells-in (g .args .ruler) (g .pre .0) (g .args .t) (row-ok (c) .fits) in
+    (g .pre .0, (cells .0, cells .1, omega (arith, in-index g)))
 
 refused-requires-2 : tie.Need-refused-requires-2
 refused-requires-2 c κs = search needs
@@ -132,38 +132,16 @@ returns-3 : tie.Need-returns-3
 unfolding entryWords refuse
 returns-3 c =
     let g = c .before .before .before .before .before .before .before .before .before .before .before .before .before in
-    let t = g .args .t in
-    let r = g .args .ruler in
-    let s = scale r in
-    let x = index (g .args .directory .now) (g .args .originals .now) (g .args .replicas .now) in
-    let w = in-index g in
-    let few : leb mostTrips (length (tableOf s x)) ≡ false = lt-leb mostTrips (length (tableOf s x)) (omega
-    (arith, w .trips, c .before .before .before .before .before .before .before .if1 .left)) in
-    let read = ap (λ (k : ℕ). rows (take (entryWords * k - 0) (x .originals))) (w .trips) ∙ w .listed in
-    let is = c .before .before .before .before .before .trip-outcome .ensures ∙ ap (λ (l : List Trip). rowTests s l t 0 Accepted) read in
-    let ok = row-taken s (tableOf s x) t _ is (sym (c .before .before .before .before .is-accepted .ensures)
-    ∙ not-false _ (c .before .before .before .if2 .left)) in
-    let cells = cells-in r (g .pre .0) t (ok .fits) in
-    let first : ltb (length (x .originals)) (entryWords * (length (tableOf s x) + length (slotsOfTrip s Originals t))) ≡ true =
-    rw (← w .trips) (sym (c .before .before .lacks-room .ensures) ∙ c .before .if3 .taken) in
-    c .refused2 .ensures ∙ sym (add-room s x t (g .pre .1) w few ok (cells .1) true _ first refl)
+    let row = row-ok (c .before .before .before) in
+    let cells = cells-in (g .args .ruler) (g .pre .0) (g .args .t) (row .fits) in
+    c .refused2 .ensures ∙ sym (add-room (scale (g .args .ruler)) (words g) (g .args .t) (g .pre .1) (in-index g) (few (c .before .before .before .before .before .before .before)) row (cells .1) true _ (sym (c .before .before .lacks-room .ensures) ∙ c .before .if3 .taken) refl)
 
 lacks-room-requires-2 : tie.Need-lacks-room-requires-2
 unfolding entryWords refuse
 lacks-room-requires-2 c κs =
     let g = c .before .before .before .before .before .before .before .before .before .before .before .before in
-    let t = g .args .t in
-    let r = g .args .ruler in
-    let s = scale r in
-    let x = index (g .args .directory .now) (g .args .originals .now) (g .args .replicas .now) in
-    let w = in-index g in
-    let few : leb mostTrips (length (tableOf s x)) ≡ false = lt-leb mostTrips (length (tableOf s x)) (omega
-    (arith, w .trips, c .before .before .before .before .before .before .if1 .left)) in
-    let read = ap (λ (k : ℕ). rows (take (entryWords * k - 0) (x .originals))) (w .trips) ∙ w .listed in
-    let is = c .before .before .before .before .trip-outcome .ensures ∙ ap (λ (l : List Trip). rowTests s l t 0 Accepted) read in
-    let ok = row-taken s (tableOf s x) t _ is (sym (c .before .before .before .is-accepted .ensures) ∙ not-false _ (c .before .before .if2 .left)) in
-    let cells = cells-in r (g .pre .0) t (ok .fits) in
-    (g .pre .0, (cells .0, cells .1, omega (arith, w)))
+    let cells = cells-in (g .args .ruler) (g .pre .0) (g .args .t) (row-ok (c .before .before) .fits) in
+    (g .pre .0, (cells .0, cells .1, omega (arith, in-index g)))
 
 refused-requires-3 : tie.Need-refused-requires-3
 refused-requires-3 c κs = search needs
@@ -172,46 +150,19 @@ returns-4 : tie.Need-returns-4
 unfolding entryWords refuse
 returns-4 c =
     let g = c .before .before .before .before .before .before .before .before .before .before .before .before .before .before .before in
-    let t = g .args .t in
-    let r = g .args .ruler in
-    let s = scale r in
-    let x = index (g .args .directory .now) (g .args .originals .now) (g .args .replicas .now) in
-    let w = in-index g in
-    let few : leb mostTrips (length (tableOf s x)) ≡ false = lt-leb mostTrips (length (tableOf s x)) (omega
-    (arith, w .trips, c .before .before .before .before .before .before .before .before .before .if1 .left)) in
-    let read = ap (λ (k : ℕ). rows (take (entryWords * k - 0) (x .originals))) (w .trips) ∙ w .listed in
-    let is = c .before .before .before .before .before .before .before .trip-outcome .ensures
-    ∙ ap (λ (l : List Trip). rowTests s l t 0 Accepted) read in
-    let ok = row-taken s (tableOf s x) t _ is (sym (c .before .before .before .before .before .before .is-accepted .ensures)
-    ∙ not-false _ (c .before .before .before .before .before .if2 .left)) in
-    let cells = cells-in r (g .pre .0) t (ok .fits) in
-    let first : ltb (length (x .originals)) (entryWords * (length (tableOf s x) + length (slotsOfTrip s Originals t))) ≡ false =
-    rw (← w .trips) (sym (c .before .before .before .before .lacks-room .ensures) ∙ c .before .before .before .if3 .left) in
-    let second : ltb (length (x .replicas)) (entryWords * (length (entries s Replicas (tableOf s x)) + length (slotsOfTrip s Replicas t))) ≡ true =
-    rw (← w .copies) (sym (c .before .before .lacks-room2 .ensures) ∙ c .before .if4 .taken) in
-    c .refused3 .ensures ∙ sym (add-room s x t (g .pre .1) w few ok (cells .1) false true first second)
+    let row = row-ok (c .before .before .before .before .before) in
+    let cells = cells-in (g .args .ruler) (g .pre .0) (g .args .t) (row .fits) in
+    c .refused3 .ensures ∙ sym (add-room (scale (g .args .ruler)) (words g) (g .args .t) (g .pre .1) (in-index g) (few (c .before .before .before .before .before .before .before .before .before)) row (cells .1) false true
+    (sym (c .before .before .before .before .lacks-room .ensures) ∙ c .before .before .before .if3 .left) (sym (c .before .before .lacks-room2 .ensures) ∙ c .before .if4 .taken))
 
 returns-5 : tie.Need-returns-5
 unfolding entryWords refuse
 returns-5 c =
     let g = c .before .before .before .before .before .before .before .before .before .before .before .before .before .before in
-    let t = g .args .t in
-    let r = g .args .ruler in
-    let s = scale r in
-    let x = index (g .args .directory .now) (g .args .originals .now) (g .args .replicas .now) in
-    let w = in-index g in
-    let few : leb mostTrips (length (tableOf s x)) ≡ false = lt-leb mostTrips (length (tableOf s x)) (omega
-    (arith, w .trips, c .before .before .before .before .before .before .before .before .if1 .left)) in
-    let read = ap (λ (k : ℕ). rows (take (entryWords * k - 0) (x .originals))) (w .trips) ∙ w .listed in
-    let is = c .before .before .before .before .before .before .trip-outcome .ensures ∙ ap (λ (l : List Trip). rowTests s l t 0 Accepted) read in
-    let ok = row-taken s (tableOf s x) t _ is (sym (c .before .before .before .before .before .is-accepted .ensures)
-    ∙ not-false _ (c .before .before .before .before .if2 .left)) in
-    let cells = cells-in r (g .pre .0) t (ok .fits) in
-    let first : ltb (length (x .originals)) (entryWords * (length (tableOf s x) + length (slotsOfTrip s Originals t))) ≡ false =
-    rw (← w .trips) (sym (c .before .before .before .lacks-room .ensures) ∙ c .before .before .if3 .left) in
-    let second : ltb (length (x .replicas)) (entryWords * (length (entries s Replicas (tableOf s x)) + length (slotsOfTrip s Replicas t))) ≡ false =
-    rw (← w .copies) (sym (c .before .lacks-room2 .ensures) ∙ c .if4 .left) in
-    sym (add-room s x t (g .pre .1) w few ok (cells .1) false false first second)
+    let row = row-ok (c .before .before .before .before) in
+    let cells = cells-in (g .args .ruler) (g .pre .0) (g .args .t) (row .fits) in
+    sym (add-room (scale (g .args .ruler)) (words g) (g .args .t) (g .pre .1) (in-index g) (few (c .before .before .before .before .before .before .before .before)) row (cells .1) false false
+    (sym (c .before .before .before .lacks-room .ensures) ∙ c .before .before .if3 .left) (sym (c .before .lacks-room2 .ensures) ∙ c .if4 .left))
 
 pub add-outcome-spec : {M : Type 1} → statement M
 add-outcome-spec =
