@@ -25,9 +25,10 @@ use Rattle.plan.specs.Plan.{Ranged, originalSlots, replicaSlots, firstSlot, slo
 use Rattle.plan.proofs.Looked.{slotsFrom, width, lookedAt, levelWalk, walk}
 use Rattle.plan.proofs.Ranges.{few-slots, cells-ordered, high-in}
 use Rattle.plan.proofs.Sure.{three-pieces, first-sure, between-sure, last-sure, one-sure, replicas-sure}
-use Rattle.ask.specs.Part.{stretchMatches, There}
+use Rattle.ask.specs.Part.{stretchMatches, There, Listed}
 use Rattle.ask.specs.Cut.{SlotsThere}
 use Rattle.ask.specs.Levels.{AllThere, levelMatches, LevelsThere, levelsMatches}
+use Rattle.ask.proofs.Written.{rest-room}
 use Rattle.ask.proofs.Laid.{stretch-is, stretch-there, partition-there}
 
 -- what the walk asks: an index, a plan on its ruler, and that a quick plan is right to be so
@@ -222,3 +223,9 @@ module _ (t : Trip → Bool) (d o r : List ℕ) (p : Plan) where
   pub next-room : (up n : ℕ) → up < n → {room : ℕ} → length (levelsMatches t d o r p n) ≤ room
       → length (levelsMatches t d o r p up ++ levelMatches t d o r (stretchesAt p (p .low .0 - up))) ≤ room
   next-room up n h room = rw (← levels-more up) (omega (arith, levels-less (up + 1) n (omega arith)))
+
+  -- in the rest of the list into which the levels below were listed
+  pub next-fits : (n : ℕ) {up count : ℕ} {old mid : List ℕ} → Listed (levelsMatches t d o r p up) old mid count → up < n
+      → length (levelsMatches t d o r p n) ≤ length old
+      → count + length (levelMatches t d o r (stretchesAt p (p .low .0 - up))) ≤ length mid
+  next-fits n {up} one h room = rest-room one _ (next-room up n h room)

@@ -60,8 +60,12 @@ fn room_for(
     room: usize,
 ) -> Outcome
     requires { ⌜ LevelsThere (now directory) (now originals) (now replicas) plan ⌝ }
-    requires { ⌜ (length (levelsMatches (inside bounds) (now directory) (now originals) (now replicas) plan (plan .low .0 + 1)) ≤ trips) × (trips ≤ mostTrips) ⌝ }
-    ensures { λ r. ⌜ r ≡ roomTest (length (levelsMatches (inside bounds) (now (directory .entry)) (now (originals .entry)) (now (replicas .entry)) plan (plan .low .0 + 1))) room ⌝ }
+    requires { ⌜ (length (levelsMatches (inside bounds) (now directory) (now originals) (now replicas) plan (plan .low .0 + 1)) ≤ trips)
+        × (trips ≤ mostTrips) ⌝ }
+    ensures { λ r.
+        ⌜ r ≡ roomTest
+        (length (levelsMatches (inside bounds) (now (directory .entry)) (now (originals .entry)) (now (replicas .entry)) plan (plan .low .0 + 1)))
+        room ⌝ }
 {
     if trips <= room {
         return Outcome::Accepted;
@@ -88,7 +92,10 @@ fn listed(
     requires { ⌜ inBounds (ruler .numbers) ≡ true ⌝ }
     requires { ⌜ isIndex (scale ruler) (index (now directory) (now originals) (now replicas)) ≡ true ⌝ }
     requires { ⌜ OnRuler (scale ruler) (question .window) ⌝ }
-    ensures { λ r. ⌜ asked (r .outcome) (r .count) (now (answers .exit)) ≡ listedOf (answer question (tableOf (scale ruler) (index (now (directory .entry)) (now (originals .entry)) (now (replicas .entry))))) (now (answers .entry)) ⌝ }
+    ensures { λ r.
+        ⌜ asked (r .outcome) (r .count) (now (answers .exit))
+        ≡ listedOf (answer question (tableOf (scale ruler) (index (now (directory .entry)) (now (originals .entry)) (now (replicas .entry)))))
+        (now (answers .entry)) ⌝ }
 {
     let window = question.window;
     let relationship = question.relationship;
@@ -137,7 +144,10 @@ fn by_code(
 ) -> Answered
     requires { ⌜ inBounds (ruler .numbers) ≡ true ⌝ }
     requires { ⌜ isIndex (scale ruler) (index (now directory) (now originals) (now replicas)) ≡ true ⌝ }
-    ensures { λ r. ⌜ asked (r .outcome) (r .count) (now (answers .exit)) ≡ answerOf (scale ruler) (tableOf (scale ruler) (index (now (directory .entry)) (now (originals .entry)) (now (replicas .entry)))) code window (now (answers .entry)) ⌝ }
+    ensures { λ r.
+        ⌜ asked (r .outcome) (r .count) (now (answers .exit))
+        ≡ answerOf (scale ruler) (tableOf (scale ruler) (index (now (directory .entry)) (now (originals .entry)) (now (replicas .entry))))
+        code window (now (answers .entry)) ⌝ }
 {
     let Named::As(relationship) = relationship_of(code) else {
         return refused(Refusal::NoRelationship, 0);
@@ -169,7 +179,10 @@ pub fn ask(
     window: Window,
     answers: &mut [u32],
 ) -> Answered
-    ensures { λ r. ⌜ asked (r .outcome) (r .count) (now (answers .exit)) ≡ askOf (scaleOf numbers) (index (now (directory .entry)) (now (originals .entry)) (now (replicas .entry))) code window (now (answers .entry)) ⌝ }
+    ensures { λ r.
+        ⌜ asked (r .outcome) (r .count) (now (answers .exit))
+        ≡ askOf (scaleOf numbers) (index (now (directory .entry)) (now (originals .entry)) (now (replicas .entry)))
+        code window (now (answers .entry)) ⌝ }
 {
     let checked = verify::check(numbers, directory, originals, replicas);
     if let Outcome::Refused { refusal, detail } = checked {

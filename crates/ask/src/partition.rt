@@ -72,7 +72,9 @@ fn list_slot(
     requires { ⌜ There (now directory) (now arena) slot ⌝ }
     requires { ⌜ InTurn half aft (stretchWords (now directory) (now arena) slot) ⌝ }
     requires { ⌜ n + length (keep (inside bounds) (rows (stretchWords (now directory) (now arena) slot))) ≤ length (now out) ⌝ }
-    ensures { λ r. ⌜ ListedFrom n (keep (inside bounds) (rows (stretchWords (now (directory .entry)) (now (arena .entry)) slot))) (now (out .entry)) (now (out .exit)) r ⌝ }
+    ensures { λ r.
+        ⌜ ListedFrom n (keep (inside bounds) (rows (stretchWords (now (directory .entry)) (now (arena .entry)) slot)))
+        (now (out .entry)) (now (out .exit)) r ⌝ }
 {
     let from = slot.from;
     let to = slot.to;
@@ -114,7 +116,8 @@ pub fn list_partition(
 ) -> usize
     requires { ⌜ SlotsThere half (now directory) (now arena) stretch ⌝ }
     requires { ⌜ n + length (stretchMatches (inside bounds) (now directory) (now arena) stretch) ≤ length (now out) ⌝ }
-    ensures { λ r. ⌜ ListedFrom n (stretchMatches (inside bounds) (now (directory .entry)) (now (arena .entry)) stretch) (now (out .entry)) (now (out .exit)) r ⌝ }
+    ensures { λ r.
+        ⌜ ListedFrom n (stretchMatches (inside bounds) (now (directory .entry)) (now (arena .entry)) stretch) (now (out .entry)) (now (out .exit)) r ⌝ }
 {
     if stretch.sure {
         return list_stretch(bounds, stretch, directory, arena, out, n);

@@ -37,7 +37,8 @@ pub fn list_stretch(
 ) -> usize
     requires { ⌜ There (now directory) (now arena) stretch ⌝ }
     requires { ⌜ n + length (stretchMatches (inside bounds) (now directory) (now arena) stretch) ≤ length (now out) ⌝ }
-    ensures { λ r. ⌜ ListedFrom n (stretchMatches (inside bounds) (now (directory .entry)) (now (arena .entry)) stretch) (now (out .entry)) (now (out .exit)) r ⌝ }
+    ensures { λ r.
+        ⌜ ListedFrom n (stretchMatches (inside bounds) (now (directory .entry)) (now (arena .entry)) stretch) (now (out .entry)) (now (out .exit)) r ⌝ }
 {
     let from = stretch.from;
     let to = stretch.to;

@@ -46,7 +46,9 @@ fn list_level(
 ) -> usize
     requires { ⌜ AllThere (now directory) (now originals) (now replicas) level ⌝ }
     requires { ⌜ length (levelMatches (inside bounds) (now directory) (now originals) (now replicas) level) ≤ length (now out) ⌝ }
-    ensures { λ r. ⌜ Listed (levelMatches (inside bounds) (now (directory .entry)) (now (originals .entry)) (now (replicas .entry)) level) (now (out .entry)) (now (out .exit)) r ⌝ }
+    ensures { λ r.
+        ⌜ Listed (levelMatches (inside bounds) (now (directory .entry)) (now (originals .entry)) (now (replicas .entry)) level)
+        (now (out .entry)) (now (out .exit)) r ⌝ }
 {
     let a = list_partition(
         Half::Originals,
@@ -88,7 +90,8 @@ pub fn count_levels(
 ) -> usize
     requires { ⌜ LevelsThere (now directory) (now originals) (now replicas) plan ⌝ }
     requires { ⌜ length (levelsMatches (inside bounds) (now directory) (now originals) (now replicas) plan (plan .low .0 + 1)) ≤ mostTrips ⌝ }
-    ensures { λ r. ⌜ r ≡ length (levelsMatches (inside bounds) (now (directory .entry)) (now (originals .entry)) (now (replicas .entry)) plan (plan .low .0 + 1)) ⌝ }
+    ensures { λ r.
+        ⌜ r ≡ length (levelsMatches (inside bounds) (now (directory .entry)) (now (originals .entry)) (now (replicas .entry)) plan (plan .low .0 + 1)) ⌝ }
 {
     let low = plan.low;
     let m = low.level();
@@ -113,7 +116,9 @@ pub fn list_levels(
 ) -> usize
     requires { ⌜ LevelsThere (now directory) (now originals) (now replicas) plan ⌝ }
     requires { ⌜ length (levelsMatches (inside bounds) (now directory) (now originals) (now replicas) plan (plan .low .0 + 1)) ≤ length (now answers) ⌝ }
-    ensures { λ r. ⌜ Listed (levelsMatches (inside bounds) (now (directory .entry)) (now (originals .entry)) (now (replicas .entry)) plan (plan .low .0 + 1)) (now (answers .entry)) (now (answers .exit)) r ⌝ }
+    ensures { λ r.
+        ⌜ Listed (levelsMatches (inside bounds) (now (directory .entry)) (now (originals .entry)) (now (replicas .entry)) plan (plan .low .0 + 1))
+        (now (answers .entry)) (now (answers .exit)) r ⌝ }
 {
     let low = plan.low;
     let m = low.level();

@@ -59,7 +59,9 @@ fn build_on(
     replicas: &mut [u32],
 ) -> Outcome
     requires { ⌜ inBounds (ruler .numbers) ≡ true ⌝ }
-    ensures { λ r. ⌜ after r (index (now (directory .exit)) (now (originals .exit)) (now (replicas .exit))) ≡ buildOf (scale ruler) (now (table .entry)) (index (now (directory .entry)) (now (originals .entry)) (now (replicas .entry))) ⌝ }
+    ensures { λ r.
+        ⌜ after r (index (now (directory .exit)) (now (originals .exit)) (now (replicas .exit)))
+        ≡ buildOf (scale ruler) (now (table .entry)) (index (now (directory .entry)) (now (originals .entry)) (now (replicas .entry))) ⌝ }
 {
     let outcome = judged(
         ruler,
@@ -98,7 +100,9 @@ pub fn build(
     originals: &mut [u32],
     replicas: &mut [u32],
 ) -> Outcome
-    ensures { λ r. ⌜ after r (index (now (directory .exit)) (now (originals .exit)) (now (replicas .exit))) ≡ buildOf (scaleOf numbers) (now (table .entry)) (index (now (directory .entry)) (now (originals .entry)) (now (replicas .entry))) ⌝ }
+    ensures { λ r.
+        ⌜ after r (index (now (directory .exit)) (now (originals .exit)) (now (replicas .exit)))
+        ≡ buildOf (scaleOf numbers) (now (table .entry)) (index (now (directory .entry)) (now (originals .entry)) (now (replicas .entry))) ⌝ }
 {
     let Judged::Good(ruler) = Ruler::new(numbers) else {
         return refused(Refusal::RulerOutOfBounds, 0);

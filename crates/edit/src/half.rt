@@ -22,7 +22,8 @@ ghost use Rattle.edit.specs.Halves.{HalfOf, Adding, Removing};
 pub fn spots_of(ruler: Ruler, half: Half, t: Trip, spots: &mut [u32]) -> usize
     requires { ⌜ inBounds (ruler .numbers) ≡ true ⌝ }
     requires { ⌜ (scale ruler .cell (t .start) < 2 ^ scale ruler .m) × (scale ruler .cell (t .end) < 2 ^ scale ruler .m) × (mostSlots ≤ length (now spots)) ⌝ }
-    ensures { λ r. ⌜ (r ≡ length (slotsOfTrip (scale ruler) half t)) × (now (spots .exit) ≡ over (slotsOfTrip (scale ruler) half t) (now (spots .entry))) ⌝ }
+    ensures { λ r.
+        ⌜ (r ≡ length (slotsOfTrip (scale ruler) half t)) × (now (spots .exit) ≡ over (slotsOfTrip (scale ruler) half t) (now (spots .entry))) ⌝ }
 {
     let start = t.start;
     let end = t.end;
@@ -35,7 +36,10 @@ pub fn spots_of(ruler: Ruler, half: Half, t: Trip, spots: &mut [u32]) -> usize
 // Puts a trip into each of its slots.
 fn add_to_slots(half: Half, dir: &mut [u32], arena: &mut [u32], spots: &[u32], t: Trip)
     requires { ⌜ ((s : Scale) × (x : Index) × Adding s half x t (now dir) (now arena) × (now spots ≡ slotsOfTrip s half t)) ⌝ }
-    ensures { λ _. ⌜ ((s : Scale) (x : Index) → Adding s half x t (now (dir .entry)) (now (arena .entry)) → now (spots .entry) ≡ slotsOfTrip s half t → HalfOf s half (t ∷ tableOf s x) x (now (dir .exit)) (now (arena .exit))) ⌝ }
+    ensures { λ _.
+        ⌜ ((s : Scale) (x : Index) → Adding s half x t (now (dir .entry)) (now (arena .entry))
+        → now (spots .entry) ≡ slotsOfTrip s half t
+        → HalfOf s half (t ∷ tableOf s x) x (now (dir .exit)) (now (arena .exit))) ⌝ }
 {
     let mut j: usize = 0;
     while j < spots.len() {
@@ -48,7 +52,10 @@ fn add_to_slots(half: Half, dir: &mut [u32], arena: &mut [u32], spots: &[u32], t
 // Takes a trip out of each of its slots.
 fn remove_from_slots(half: Half, dir: &mut [u32], arena: &mut [u32], spots: &[u32], t: Trip)
     requires { ⌜ ((s : Scale) × (x : Index) × Removing s half x t (now dir) (now arena) × (now spots ≡ slotsOfTrip s half t)) ⌝ }
-    ensures { λ _. ⌜ ((s : Scale) (x : Index) → Removing s half x t (now (dir .entry)) (now (arena .entry)) → now (spots .entry) ≡ slotsOfTrip s half t → HalfOf s half (without (t .id) (tableOf s x)) x (now (dir .exit)) (now (arena .exit))) ⌝ }
+    ensures { λ _.
+        ⌜ ((s : Scale) (x : Index) → Removing s half x t (now (dir .entry)) (now (arena .entry))
+        → now (spots .entry) ≡ slotsOfTrip s half t
+        → HalfOf s half (without (t .id) (tableOf s x)) x (now (dir .exit)) (now (arena .exit))) ⌝ }
 {
     let mut j: usize = 0;
     while j < spots.len() {
@@ -62,7 +69,9 @@ fn remove_from_slots(half: Half, dir: &mut [u32], arena: &mut [u32], spots: &[u3
 pub fn add_half(ruler: Ruler, half: Half, dir: &mut [u32], arena: &mut [u32], t: Trip)
     requires { ⌜ inBounds (ruler .numbers) ≡ true ⌝ }
     requires { ⌜ ((x : Index) × Adding (scale ruler) half x t (now dir) (now arena)) ⌝ }
-    ensures { λ _. ⌜ ((x : Index) → Adding (scale ruler) half x t (now (dir .entry)) (now (arena .entry)) → HalfOf (scale ruler) half (t ∷ tableOf (scale ruler) x) x (now (dir .exit)) (now (arena .exit))) ⌝ }
+    ensures { λ _.
+        ⌜ ((x : Index) → Adding (scale ruler) half x t (now (dir .entry)) (now (arena .entry))
+        → HalfOf (scale ruler) half (t ∷ tableOf (scale ruler) x) x (now (dir .exit)) (now (arena .exit))) ⌝ }
 {
     let mut spots = [0u32; places::MOST_SLOTS];
     let n = spots_of(ruler, half, t, &mut spots);
@@ -73,7 +82,9 @@ pub fn add_half(ruler: Ruler, half: Half, dir: &mut [u32], arena: &mut [u32], t:
 pub fn remove_half(ruler: Ruler, half: Half, dir: &mut [u32], arena: &mut [u32], t: Trip)
     requires { ⌜ inBounds (ruler .numbers) ≡ true ⌝ }
     requires { ⌜ ((x : Index) × Removing (scale ruler) half x t (now dir) (now arena)) ⌝ }
-    ensures { λ _. ⌜ ((x : Index) → Removing (scale ruler) half x t (now (dir .entry)) (now (arena .entry)) → HalfOf (scale ruler) half (without (t .id) (tableOf (scale ruler) x)) x (now (dir .exit)) (now (arena .exit))) ⌝ }
+    ensures { λ _.
+        ⌜ ((x : Index) → Removing (scale ruler) half x t (now (dir .entry)) (now (arena .entry))
+        → HalfOf (scale ruler) half (without (t .id) (tableOf (scale ruler) x)) x (now (dir .exit)) (now (arena .exit))) ⌝ }
 {
     let mut spots = [0u32; places::MOST_SLOTS];
     let n = spots_of(ruler, half, t, &mut spots);

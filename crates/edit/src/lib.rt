@@ -30,7 +30,10 @@ mod tests;
 fn put_in(ruler: Ruler, directory: &mut [u32], originals: &mut [u32], replicas: &mut [u32], t: Trip)
     requires { ⌜ inBounds (ruler .numbers) ≡ true ⌝ }
     requires { ⌜ addOutcome (scale ruler) (index (now directory) (now originals) (now replicas)) t ≡ Outcome.Accepted ⌝ }
-    ensures { λ _. ⌜ index (now (directory .exit)) (now (originals .exit)) (now (replicas .exit)) ≡ layout (scale ruler) (t ∷ tableOf (scale ruler) (index (now (directory .entry)) (now (originals .entry)) (now (replicas .entry)))) (lengthsOf (index (now (directory .entry)) (now (originals .entry)) (now (replicas .entry)))) ⌝ }
+    ensures { λ _.
+        ⌜ index (now (directory .exit)) (now (originals .exit)) (now (replicas .exit))
+        ≡ layout (scale ruler) (t ∷ tableOf (scale ruler) (index (now (directory .entry)) (now (originals .entry)) (now (replicas .entry))))
+        (lengthsOf (index (now (directory .entry)) (now (originals .entry)) (now (replicas .entry)))) ⌝ }
 {
     let n = directory.len();
     let middle = n / 2;
@@ -61,7 +64,11 @@ fn take_out(
     requires { ⌜ inBounds (ruler .numbers) ≡ true ⌝ }
     requires { ⌜ removeOutcome (scale ruler) (index (now directory) (now originals) (now replicas)) (t .id) ≡ Outcome.Accepted ⌝ }
     requires { ⌜ List·Memᴰ t (tableOf (scale ruler) (index (now directory) (now originals) (now replicas))) ⌝ }
-    ensures { λ _. ⌜ index (now (directory .exit)) (now (originals .exit)) (now (replicas .exit)) ≡ layout (scale ruler) (without (t .id) (tableOf (scale ruler) (index (now (directory .entry)) (now (originals .entry)) (now (replicas .entry))))) (lengthsOf (index (now (directory .entry)) (now (originals .entry)) (now (replicas .entry)))) ⌝ }
+    ensures { λ _.
+        ⌜ index (now (directory .exit)) (now (originals .exit)) (now (replicas .exit))
+        ≡ layout (scale ruler)
+        (without (t .id) (tableOf (scale ruler) (index (now (directory .entry)) (now (originals .entry)) (now (replicas .entry)))))
+        (lengthsOf (index (now (directory .entry)) (now (originals .entry)) (now (replicas .entry)))) ⌝ }
 {
     let n = directory.len();
     let middle = n / 2;
@@ -91,7 +98,9 @@ fn add_checked(
 ) -> Outcome
     requires { ⌜ inBounds (ruler .numbers) ≡ true ⌝ }
     requires { ⌜ checkOutcome (scale ruler) (index (now directory) (now originals) (now replicas)) ≡ Outcome.Accepted ⌝ }
-    ensures { λ r. ⌜ after r (index (now (directory .exit)) (now (originals .exit)) (now (replicas .exit))) ≡ addOf (scale ruler) (index (now (directory .entry)) (now (originals .entry)) (now (replicas .entry))) t ⌝ }
+    ensures { λ r.
+        ⌜ after r (index (now (directory .exit)) (now (originals .exit)) (now (replicas .exit)))
+        ≡ addOf (scale ruler) (index (now (directory .entry)) (now (originals .entry)) (now (replicas .entry))) t ⌝ }
 {
     let outcome = tests::add_outcome(ruler, directory, originals, replicas, t);
     if !is_accepted(outcome) {
@@ -111,7 +120,9 @@ fn remove_checked(
 ) -> Outcome
     requires { ⌜ inBounds (ruler .numbers) ≡ true ⌝ }
     requires { ⌜ checkOutcome (scale ruler) (index (now directory) (now originals) (now replicas)) ≡ Outcome.Accepted ⌝ }
-    ensures { λ r. ⌜ after r (index (now (directory .exit)) (now (originals .exit)) (now (replicas .exit))) ≡ removeOf (scale ruler) (index (now (directory .entry)) (now (originals .entry)) (now (replicas .entry))) id ⌝ }
+    ensures { λ r.
+        ⌜ after r (index (now (directory .exit)) (now (originals .exit)) (now (replicas .exit)))
+        ≡ removeOf (scale ruler) (index (now (directory .entry)) (now (originals .entry)) (now (replicas .entry))) id ⌝ }
 {
     let middle = directory.len() / 2;
     let trips = directory[middle - 1] as usize;
@@ -133,7 +144,9 @@ pub fn add(
     replicas: &mut [u32],
     t: Trip,
 ) -> Outcome
-    ensures { λ r. ⌜ after r (index (now (directory .exit)) (now (originals .exit)) (now (replicas .exit))) ≡ addOf (scaleOf numbers) (index (now (directory .entry)) (now (originals .entry)) (now (replicas .entry))) t ⌝ }
+    ensures { λ r.
+        ⌜ after r (index (now (directory .exit)) (now (originals .exit)) (now (replicas .exit)))
+        ≡ addOf (scaleOf numbers) (index (now (directory .entry)) (now (originals .entry)) (now (replicas .entry))) t ⌝ }
 {
     let checked = verify::check(numbers, directory, originals, replicas);
     if !is_accepted(checked) {
@@ -153,7 +166,9 @@ pub fn remove(
     replicas: &mut [u32],
     id: u32,
 ) -> Outcome
-    ensures { λ r. ⌜ after r (index (now (directory .exit)) (now (originals .exit)) (now (replicas .exit))) ≡ removeOf (scaleOf numbers) (index (now (directory .entry)) (now (originals .entry)) (now (replicas .entry))) id ⌝ }
+    ensures { λ r.
+        ⌜ after r (index (now (directory .exit)) (now (originals .exit)) (now (replicas .exit)))
+        ≡ removeOf (scaleOf numbers) (index (now (directory .entry)) (now (originals .entry)) (now (replicas .entry))) id ⌝ }
 {
     let checked = verify::check(numbers, directory, originals, replicas);
     if !is_accepted(checked) {

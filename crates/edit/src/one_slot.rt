@@ -24,7 +24,9 @@ fn place_in(half: Half, dir: &[u32], arena: &[u32], slot: usize, t: Trip) -> usi
 // Puts a trip into a slot, at its place in the slot's order.
 pub fn add_to_slot(half: Half, dir: &mut [u32], arena: &mut [u32], slot: usize, t: Trip)
     requires { ⌜ ((ls : List (List Trip)) × Vacant (now dir) (now arena) ls half slot) ⌝ }
-    ensures { λ _. ⌜ ((ls : List (List Trip)) → Vacant (now (dir .entry)) (now (arena .entry)) ls half slot → Holds (now (dir .exit)) (now (arena .exit)) (insertedIn slot (placeIn half slot t ls) t ls)) ⌝ }
+    ensures { λ _.
+        ⌜ ((ls : List (List Trip)) → Vacant (now (dir .entry)) (now (arena .entry)) ls half slot
+        → Holds (now (dir .exit)) (now (arena .exit)) (insertedIn slot (placeIn half slot t ls) t ls)) ⌝ }
 {
     let pos = place_in(half, dir, arena, slot, t);
     slot::insert(dir, arena, slot, pos, t);
@@ -33,7 +35,9 @@ pub fn add_to_slot(half: Half, dir: &mut [u32], arena: &mut [u32], slot: usize, 
 // Takes a trip out of a slot that has it.
 pub fn remove_from_slot(half: Half, dir: &mut [u32], arena: &mut [u32], slot: usize, t: Trip)
     requires { ⌜ ((ls : List (List Trip)) × Present (now dir) (now arena) ls half slot t) ⌝ }
-    ensures { λ _. ⌜ ((ls : List (List Trip)) → Present (now (dir .entry)) (now (arena .entry)) ls half slot t → Holds (now (dir .exit)) (now (arena .exit)) (removedIn slot (placeIn half slot t ls) ls)) ⌝ }
+    ensures { λ _.
+        ⌜ ((ls : List (List Trip)) → Present (now (dir .entry)) (now (arena .entry)) ls half slot t
+        → Holds (now (dir .exit)) (now (arena .exit)) (removedIn slot (placeIn half slot t ls) ls)) ⌝ }
 {
     let pos = place_in(half, dir, arena, slot, t);
     slot::remove(dir, arena, slot, pos);

@@ -54,7 +54,9 @@ fn visited(
     last: u32,
 ) -> usize
     requires { ⌜ (n < length (now spots)) × (level ≤ deepest) × (i ≤ 2 ^ level) ⌝ }
-    ensures { λ r. ⌜ (r ≡ n + length (visit half test level i first last)) × (now (spots .exit) ≡ sets (now (spots .entry)) n (visit half test level i first last)) ⌝ }
+    ensures { λ r.
+        ⌜ (r ≡ n + length (visit half test level i first last))
+        × (now (spots .exit) ≡ sets (now (spots .entry)) n (visit half test level i first last)) ⌝ }
 {
     if test & is_of(half, first == i) {
         spots[n] = slot_number(level, i, last != i);
@@ -66,7 +68,8 @@ fn visited(
 // Writes the slots of a half in which a trip with the cells a .. b of the deepest level has an entry, and says how many.
 pub fn slots_of(half: Half, a: Cell, b: Cell, spots: &mut [u32]) -> usize
     requires { ⌜ (a .0 ≤ deepest) × (a .1 < 2 ^ a .0) × (b .1 < 2 ^ a .0) × (mostSlots ≤ length (now spots)) ⌝ }
-    ensures { λ r. ⌜ (r ≡ length (slotsOf half (a .0) (a .1) (b .1))) × (now (spots .exit) ≡ over (slotsOf half (a .0) (a .1) (b .1)) (now (spots .entry))) ⌝ }
+    ensures { λ r.
+        ⌜ (r ≡ length (slotsOf half (a .0) (a .1) (b .1))) × (now (spots .exit) ≡ over (slotsOf half (a .0) (a .1) (b .1)) (now (spots .entry))) ⌝ }
 {
     let mut n: usize = 0;
     let mut level = a.level() + 1;

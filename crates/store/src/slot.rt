@@ -10,7 +10,9 @@ ghost use Rattle.store.specs.Slots.{insertedIn, removedIn, Holds, Room, 
 // Puts a trip in at a place of a slot.
 pub fn insert(dir: &mut [u32], arena: &mut [u32], slot: usize, pos: usize, t: Trip)
     requires { ⌜ ((ls : List (List Trip)) × Room (now dir) (now arena) ls slot pos) ⌝ }
-    ensures { λ _. ⌜ ((ls : List (List Trip)) → Room (now (dir .entry)) (now (arena .entry)) ls slot pos → Holds (now (dir .exit)) (now (arena .exit)) (insertedIn slot pos t ls)) ⌝ }
+    ensures { λ _.
+        ⌜ ((ls : List (List Trip)) → Room (now (dir .entry)) (now (arena .entry)) ls slot pos
+        → Holds (now (dir .exit)) (now (arena .exit)) (insertedIn slot pos t ls)) ⌝ }
 {
     let last = dir.len() - 1;
     let next = slot + 1;
@@ -24,7 +26,9 @@ pub fn insert(dir: &mut [u32], arena: &mut [u32], slot: usize, pos: usize, t: Tr
 // Takes the entry at a place of a slot out.
 pub fn remove(dir: &mut [u32], arena: &mut [u32], slot: usize, pos: usize)
     requires { ⌜ ((ls : List (List Trip)) × There (now dir) (now arena) ls slot pos) ⌝ }
-    ensures { λ _. ⌜ ((ls : List (List Trip)) → There (now (dir .entry)) (now (arena .entry)) ls slot pos → Holds (now (dir .exit)) (now (arena .exit)) (removedIn slot pos ls)) ⌝ }
+    ensures { λ _.
+        ⌜ ((ls : List (List Trip)) → There (now (dir .entry)) (now (arena .entry)) ls slot pos
+        → Holds (now (dir .exit)) (now (arena .exit)) (removedIn slot pos ls)) ⌝ }
 {
     let last = dir.len() - 1;
     let next = slot + 1;

@@ -79,7 +79,9 @@ pub fn run_outcome(
     partition: u32,
     subdivision: u32,
 ) -> Outcome
-    ensures { λ r. ⌜ r ≡ runOutcome (scaleOf numbers) (index (now (directory .entry)) (now (originals .entry)) (now (replicas .entry))) level partition subdivision ⌝ }
+    ensures { λ r.
+        ⌜ r ≡ runOutcome (scaleOf numbers) (index (now (directory .entry)) (now (originals .entry)) (now (replicas .entry)))
+        level partition subdivision ⌝ }
 {
     let outcome = check(numbers, directory, originals, replicas);
     match outcome {
@@ -109,7 +111,9 @@ pub fn run<'a>(
     partition: u32,
     subdivision: u32,
 ) -> &'a [u32]
-    ensures { λ r. ⌜ now r ≡ runOf (scaleOf numbers) (index (now (directory .entry)) (now (originals .entry)) (now (replicas .entry))) level partition subdivision ⌝ }
+    ensures { λ r.
+        ⌜ now r ≡ runOf (scaleOf numbers) (index (now (directory .entry)) (now (originals .entry)) (now (replicas .entry)))
+        level partition subdivision ⌝ }
 {
     let outcome = run_outcome(
         numbers,
@@ -143,7 +147,9 @@ pub fn run_from(
     partition: u32,
     subdivision: u32,
 ) -> usize
-    ensures { λ r. ⌜ r ≡ runFromOf (scaleOf numbers) (index (now (directory .entry)) (now (originals .entry)) (now (replicas .entry))) level partition subdivision ⌝ }
+    ensures { λ r.
+        ⌜ r ≡ runFromOf (scaleOf numbers) (index (now (directory .entry)) (now (originals .entry)) (now (replicas .entry)))
+        level partition subdivision ⌝ }
 {
     let outcome = run_outcome(
         numbers,

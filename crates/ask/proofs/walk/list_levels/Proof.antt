@@ -7,7 +7,7 @@ use Rattle.plan.specs.Plan.{stretchesAt}
 use Rattle.ask.specs.Part.{Listed}
 use Rattle.ask.specs.Levels.{levelMatches, levelsMatches}
 use Rattle.ask.proofs.Written.{lent-room, lent-back, listed-none, listed-length, rest-room, listed-more}
-use Rattle.ask.proofs.Levels.{levels-none, levels-more, next-room}
+use Rattle.ask.proofs.Levels.{levels-none, levels-more, next-room, next-fits}
 use native.Mathlib.Omega.{arith}
 use borrow.Author.Needs.{needs}
 use Rattle.ask.proofs.walk.list_levels.Statement.{statement}
@@ -31,62 +31,18 @@ stretches-at-requires c κs = (c .before .before .before .before .before .before
 mul-list-level : tie.Need-mul-list-level Inv-loop μ-loop
 mul-list-level c =
     let s = c .before .before .before .before .before .before .before .before .before in
-    let g = s .args in
     let q = c .before .before .loop in
-    let t = inside (g .bounds) in
-    let d = g .directory .now in
-    let o = g .originals .now in
-    let r = g .replicas .now in
-    let at-level : c .stretches-at .result ≡ stretchesAt (g .plan) (g .plan .low .0 - q .up) =
-    c .stretches-at .ensures ∙ ap (λ (m : ℕ). stretchesAt (g .plan) (m - q .up)) (q .inv .1) in
-    let room = next-room t d o r (g .plan) (q .up) (g .plan .low .0 + 1) (omega arith) (s .pre .1) in
-    let fits = rest-room (q .inv .3) _ room in
+    let fits = next-fits _ _ _ _ _ _ (q .inv .3) (omega arith) (s .pre .1) in
     omega arith
 
 sub-list-level : tie.Need-sub-list-level Inv-loop μ-loop
-sub-list-level c =
-    let s = c .before .before .before .before .before .before .before .before .before in
-    let g = s .args in
-    let q = c .before .before .loop in
-    let t = inside (g .bounds) in
-    let d = g .directory .now in
-    let o = g .originals .now in
-    let r = g .replicas .now in
-    let at-level : c .stretches-at .result ≡ stretchesAt (g .plan) (g .plan .low .0 - q .up) =
-    c .stretches-at .ensures ∙ ap (λ (m : ℕ). stretchesAt (g .plan) (m - q .up)) (q .inv .1) in
-    let room = next-room t d o r (g .plan) (q .up) (g .plan .low .0 + 1) (omega arith) (s .pre .1) in
-    let fits = rest-room (q .inv .3) _ room in
-    omega arith
+sub-list-level c = omega (arith, next-fits _ _ _ _ _ _ (c .before .before .loop .inv .3) (omega arith) (c .before .before .before .before .before .before .before .before .before .pre .1))
 
 part-list-level-start : tie.Need-part-list-level-start Inv-loop μ-loop
-part-list-level-start c =
-    let s = c .before .before .before .before .before .before .before .before .before in
-    let g = s .args in
-    let q = c .before .before .loop in
-    let t = inside (g .bounds) in
-    let d = g .directory .now in
-    let o = g .originals .now in
-    let r = g .replicas .now in
-    let at-level : c .stretches-at .result ≡ stretchesAt (g .plan) (g .plan .low .0 - q .up) =
-    c .stretches-at .ensures ∙ ap (λ (m : ℕ). stretchesAt (g .plan) (m - q .up)) (q .inv .1) in
-    let room = next-room t d o r (g .plan) (q .up) (g .plan .low .0 + 1) (omega arith) (s .pre .1) in
-    let fits = rest-room (q .inv .3) _ room in
-    search needs
+part-list-level-start c = let fits = next-fits _ _ _ _ _ _ (c .before .before .loop .inv .3) (omega arith) (c .before .before .before .before .before .before .before .before .before .pre .1) in search needs
 
 part-list-level-end : tie.Need-part-list-level-end Inv-loop μ-loop
-part-list-level-end c =
-    let s = c .before .before .before .before .before .before .before .before .before in
-    let g = s .args in
-    let q = c .before .before .loop in
-    let t = inside (g .bounds) in
-    let d = g .directory .now in
-    let o = g .originals .now in
-    let r = g .replicas .now in
-    let at-level : c .stretches-at .result ≡ stretchesAt (g .plan) (g .plan .low .0 - q .up) =
-    c .stretches-at .ensures ∙ ap (λ (m : ℕ). stretchesAt (g .plan) (m - q .up)) (q .inv .1) in
-    let room = next-room t d o r (g .plan) (q .up) (g .plan .low .0 + 1) (omega arith) (s .pre .1) in
-    let fits = rest-room (q .inv .3) _ room in
-    search needs
+part-list-level-end c = let fits = next-fits _ _ _ _ _ _ (c .before .before .loop .inv .3) (omega arith) (c .before .before .before .before .before .before .before .before .before .pre .1) in search needs
 
 list-level-requires : tie.Need-list-level-requires Inv-loop μ-loop
 list-level-requires c κs =
