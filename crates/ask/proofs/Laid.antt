@@ -49,14 +49,17 @@ module _ {s : Scale} {h : Half} {ts : List Trip} {d : List ℕ} {base : ℕ} {l 
 -- ---- the slots of a partition, in their order
 
 -- what is in order as rows is in order as words
-in-turn : (lt : Trip → Trip → Bool) (l : List ℕ) → Sorted lt (rows l) → (i k : ℕ) → i < k → k < length l / entryWords → lt (tripAt l i) (tripAt l k) ≡ true
+in-turn : (lt : Trip → Trip → Bool) (l : List ℕ) → Sorted lt (rows l) → (i k : ℕ) → i < k → k < length l / entryWords
+    → lt (tripAt l i) (tripAt l k) ≡ true
 in-turn lt l w i k h g =
     let n = length-rows l in
     rw (← getD-rows l i (tripAt l 0) (omega arith), ← getD-rows l k (tripAt l 0) g) (in-order (tripAt l 0) lt w i k h (omega arith))
 
-module _ {s : Scale} {h : Half} {ts : List Trip} {d : List ℕ} {base : ℕ} {l : List ℕ} (w : LaidFrom s h ts d base l) (distinct : Distinct ts) (sure : Bool) where
+module _ {s : Scale} {h : Half} {ts : List Trip} {d : List ℕ} {base : ℕ} {l : List ℕ} (w : LaidFrom s h ts d base l) (distinct : Distinct ts)
+    (sure : Bool) where
   -- a stretch of one slot, and one of none
-  one-turns : (aft : Bool) (j : ℕ) → j + 1 ≤ 2 * partitions (s .m) → eqb (j % 2) 1 ≡ aft → InTurn h aft (stretchWords d l (stretch (base + j) (base + (j + 1)) sure))
+  one-turns : (aft : Bool) (j : ℕ) → j + 1 ≤ 2 * partitions (s .m) → eqb (j % 2) 1 ≡ aft
+      → InTurn h aft (stretchWords d l (stretch (base + j) (base + (j + 1)) sure))
   unfolding joined
   one-turns aft j in-half e =
       let zero-more : j + 0 ≡ j = omega arith in
@@ -73,7 +76,8 @@ module _ {s : Scale} {h : Half} {ts : List Trip} {d : List ℕ} {base : ℕ} {l 
       let same : base + (j + 0) ≡ base + j = omega arith in
       let after : afterIn (stretch (base + j) (base + (j + 0)) sure) ≡ base + j = rw (le-ltb (base + j) (base + (j + 0)) (omega arith)) refl in
       let here = slots-there w j 0 in-half sure in
-      let turns : (aft : Bool) → InTurn h aft (stretchWords d l (stretch (base + j) (base + j) sure)) = λ aft. rw same at (none-turns aft j in-half) in
+      let turns : (aft : Bool) → InTurn h aft (stretchWords d l (stretch (base + j) (base + j) sure)) = λ aft.
+      rw same at (none-turns aft j in-half) in
       record {
         whole = here;
         in-there = rw after (rw same at here);
@@ -127,15 +131,17 @@ module _ (s : Scale) (h : Half) (ts : List Trip) (L i n : ℕ) (deep : L ≤ s .
 
 -- so a stretch from a level's slot on has the entries of the level's slots
 module _ {s : Scale} {h : Half} {ts : List Trip} {d : List ℕ} {base : ℕ} {l : List ℕ} (w : LaidFrom s h ts d base l) (L i n : ℕ) (deep : L ≤ s .m)
-    (inside : 2 * i + n ≤ 2 * 2 ^ L) {from to : ℕ} (sure : Bool) (at-from : from ≡ base + firstSlot L i) (at-to : to ≡ base + (firstSlot L i + n)) where
-  pub stretch-is : rows (stretchWords d l (stretch from to sure)) ≡ slotsFrom s h ts L i n
-  stretch-is =
-      rw (at-from, at-to) (slots-are w (firstSlot L i) n (level-in s h ts L i n deep inside) sure ∙ level-slots s h ts L i n deep inside)
+    (inside : 2 * i + n ≤ 2 * 2 ^ L) {from to : ℕ} (sure : Bool) (at-from : from ≡ base + firstSlot L i) (at-to : to ≡ base + (firstSlot L i + n))
+  where
+    pub stretch-is : rows (stretchWords d l (stretch from to sure)) ≡ slotsFrom s h ts L i n
+    stretch-is =
+        rw (at-from, at-to) (slots-are w (firstSlot L i) n (level-in s h ts L i n deep inside) sure ∙ level-slots s h ts L i n deep inside)
 
-  pub stretch-there : There d l (stretch from to sure)
-  stretch-there = rw (at-from, at-to) (slots-there w (firstSlot L i) n (level-in s h ts L i n deep inside) sure)
+    pub stretch-there : There d l (stretch from to sure)
+    stretch-there = rw (at-from, at-to) (slots-there w (firstSlot L i) n (level-in s h ts L i n deep inside) sure)
 
-  -- and the first slots of a partition are in their order
-  pub partition-there : n ≤ 2 → Distinct ts → SlotsThere h d l (stretch from to sure)
-  unfolding firstSlot
-  partition-there few distinct = rw (at-from, at-to) (slots-in-turn w distinct sure (firstSlot L i) n few (omega arith) (level-in s h ts L i n deep inside))
+    -- and the first slots of a partition are in their order
+    pub partition-there : n ≤ 2 → Distinct ts → SlotsThere h d l (stretch from to sure)
+    unfolding firstSlot
+    partition-there few distinct = rw (at-from, at-to) (slots-in-turn w distinct sure (firstSlot L i) n few (omega arith)
+        (level-in s h ts L i n deep inside))

@@ -160,7 +160,8 @@ module _ {s : Scale} {t : Trip → Bool} {p : Plan} {x : Index} (r : Ready s t p
         let ab : a ≡ b = omega arith in
         let size : 2 * (b - a) + n ≡ n = omega arith in
         let none =
-        piece-is a 0 P P (p .quick) (omega arith) at-P (omega arith) ∙ ap (keepUnless (p .quick) t) (no-slots s Originals ts L a) ∙ none-kept (p .quick) t
+        piece-is a 0 P P (p .quick) (omega arith) at-P (omega arith) ∙ ap (keepUnless (p .quick) t) (no-slots s Originals ts L a)
+        ∙ none-kept (p .quick) t
         in
         let one =
         piece-is a n P (P + n) (sureFirst p L && sureLast p L) (omega arith) at-P (omega arith)

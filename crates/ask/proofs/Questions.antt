@@ -79,7 +79,8 @@ module _ (ruler : Ruler) (ok : inBounds (ruler .numbers) ≡ true) (x : Index) (
   agrees : (t : Trip) → Mem t ts → test t ≡ related (q .relationship) w t
   agrees t m =
       let f = table .rowsOk .fits t m in
-      inside-related (q .relationship) w t (not-far (ruler .numbers) (to-T ok) (t .start) (f .starts)) (not-far (ruler .numbers) (to-T ok) (t .end) (f .ends))
+      inside-related (q .relationship) w t (not-far (ruler .numbers) (to-T ok) (t .start) (f .starts))
+      (not-far (ruler .numbers) (to-T ok) (t .end) (f .ends))
 
   order : s .cell (w .start) ≤ s .cell (w .end)
   order = falls .never-falls (w .start) (w .end) (on .ordered)
@@ -88,7 +89,8 @@ module _ (ruler : Ruler) (ok : inBounds (ruler .numbers) ≡ true) (x : Index) (
   unfolding scaleOf
   ready = rw (plan-for s (q .relationship) w) (record {
     indexed = is;
-    ranged = in-range s (bounds (ruler .numbers) (to-T ok) .deep) (q .relationship) (s .cell (w .start)) (s .cell (w .end)) order (falls .one-of (w .end) (on .ends));
+    ranged = in-range s (bounds (ruler .numbers) (to-T ok) .deep) (q .relationship) (s .cell (w .start)) (s .cell (w .end)) order
+        (falls .one-of (w .end) (on .ends));
     sure = λ e t m low high. rw (agrees t m) (quick-right s falls (q .relationship) w e t low high);
   })
 

@@ -117,5 +117,14 @@ module _ {n k : ℕ} {ts : List Trip} {old mid : List ℕ} (one : ListedFrom n t
       record {
         counted = omega (arith, one .counted, two .counted, length-append ts us);
         written = two .written
-            ∙ rw (mid-is, take-at (a ++ b) (drop (length b) x) k k-is, drop-at (a ++ b) (drop (length b) x) k k-is, ids-append, length-append, drop-drop, append-assoc, append-assoc) refl;
+            ∙ rw (
+              mid-is,
+              take-at (a ++ b) (drop (length b) x) k k-is,
+              drop-at (a ++ b) (drop (length b) x) k k-is,
+              ids-append,
+              length-append,
+              drop-drop,
+              append-assoc,
+              append-assoc,
+            ) refl;
       }

@@ -70,7 +70,8 @@ module _ (n : Numbers) (x : Index) (why : Refusal) (d : ℕ) where
 
 module _ (n : Numbers) (x : Index) where
   -- "A build lays out exactly the index" of document 01. Where it refuses, and with which number, is `buildOutcome` itself.
-  pub build-exact : (table : List ℕ) → buildOf (scaleOf n) table x .outcome ≡ Accepted → buildOf (scaleOf n) table x .words ≡ layout (scaleOf n) (rows table) (lengthsOf x)
+  pub build-exact : (table : List ℕ) → buildOf (scaleOf n) table x .outcome ≡ Accepted → buildOf (scaleOf n) table x .words
+      ≡ layout (scaleOf n) (rows table) (lengthsOf x)
   unfolding buildOf leaving ifAccepted
   build-exact table e = rw e
 
@@ -96,7 +97,8 @@ module _ (n : Numbers) (x : Index) where
         let f = good-ruler h in
         let t = given-table g in
         rw is
-        (answer-same (record { window = w; relationship = r }) (tableOf (scaleOf n) x) (rows (g .table)) (h .table .rowsOk .distinct) (t .rowsOk .distinct)
+        (answer-same (record { window = w; relationship = r }) (tableOf (scaleOf n) x) (rows (g .table)) (h .table .rowsOk .distinct)
+        (t .rowsOk .distinct)
         (table-in (scaleOf n) f x (rows (g .table)) t (g .words-are)) (in-table (scaleOf n) f x (rows (g .table)) t (g .words-are)))
 
     pub ask-exact : (askOf (scaleOf n) x code w list .count ≡ length (answer question (rows (g .table))))
@@ -109,7 +111,8 @@ module _ (n : Numbers) (x : Index) where
     ask-ascends = answer-ascends question (rows (g .table)) (given-table g .rowsOk .distinct)
 
 -- the right ids are those of the trips that the question's relationship holds of
-pub right-ids : (q : Question) (ts : List Trip) (i : ℕ) → Mem i (answer q ts) ↔ ((t : Trip) × Mem t ts × T (related (q .relationship) (q .window) t) × (i ≡ t .id))
+pub right-ids : (q : Question) (ts : List Trip) (i : ℕ) → Mem i (answer q ts) ↔
+    ((t : Trip) × Mem t ts × T (related (q .relationship) (q .window) t) × (i ≡ t .id))
 unfolding answer matches
 right-ids q ts i =
     let p = related (q .relationship) (q .window) in (
@@ -132,7 +135,8 @@ module _ (n : Numbers) (x : Index) (g : IndexOfSome (scaleOf n) x) where
       let back = words-cons t (rows (g .table)) ∙ ap (λ (l : List ℕ). tripWords t ++ l) (words-rows (g .table) (b .1)) in
       rw (← back) (added-is-built (scaleOf n) (good-ruler n x (a .is-index)) x (rows (g .table)) (b .0) (g .words-are) t a)
 
-  pub remove-exact : (i : ℕ) → removeOf (scaleOf n) x i .outcome ≡ Accepted → removeOf (scaleOf n) x i ≡ buildOf (scaleOf n) (words (without i (rows (g .table)))) x
+  pub remove-exact : (i : ℕ) → removeOf (scaleOf n) x i .outcome ≡ Accepted → removeOf (scaleOf n) x i
+      ≡ buildOf (scaleOf n) (words (without i (rows (g .table)))) x
   unfolding removeOf leaving
   remove-exact i e =
       let a = of-remove (scaleOf n) x i e in

@@ -64,7 +64,13 @@ record Computed : Type 0 where
   tells-two : detailOf (all-of with-both [] .outcome) ≡ 2
 
 computed : Computed
-unfolding with-five with-seven with-both every same count padded keep insert sort joined upTo inBounds scaleOf cellUp judge codeOf related partitionsAt firstCell lastCell within holds holdsTrip isOriginal isIn subdivisionOf isOf belongs entryWords tripWords tripAt words rows partitions directoryLength halfLength partitionNumber levelOf placeOf slotNumber byId byStart byEnd order slotTrips slot entriesBefore entries directoryHalf arena lengthsOf layout matches answer answerTo over subdivisionNumber subdivisionNumbered levelCount levelRow census halfOf isAft runWords runFrom isAccepted refuse outOfBounds badSize full badDirectory offRuler backward hasId noRoom exceeds noSuchCode partitionsHolding inTooMany noSuchSlot timeTests rowTests firstBadRow buildOutcome tableOf sameIndex gives isIndex indexTests addOutcome removeOutcome windowTests roomTest askOutcome runOutcome checkOutcome ifAccepted leaving buildOf addOf without removeOf askOf noCensus censusOf runOf runFromOf
+unfolding with-five with-seven with-both every same count padded keep insert sort joined upTo inBounds scaleOf cellUp judge codeOf related
+    partitionsAt firstCell lastCell within holds holdsTrip isOriginal isIn subdivisionOf isOf belongs entryWords tripWords tripAt words rows
+    partitions directoryLength halfLength partitionNumber levelOf placeOf slotNumber byId byStart byEnd order slotTrips slot entriesBefore entries
+    directoryHalf arena lengthsOf layout matches answer answerTo over subdivisionNumber subdivisionNumbered levelCount levelRow census halfOf isAft
+    runWords runFrom isAccepted refuse outOfBounds badSize full badDirectory offRuler backward hasId noRoom exceeds noSuchCode partitionsHolding
+    inTooMany noSuchSlot timeTests rowTests firstBadRow buildOutcome tableOf sameIndex gives isIndex indexTests addOutcome removeOutcome windowTests
+    roomTest askOutcome runOutcome checkOutcome ifAccepted leaving buildOf addOf without removeOf askOf noCensus censusOf runOf runFromOf
 computed = record {
   build-accepts = refl;
   ask-accepts = refl;

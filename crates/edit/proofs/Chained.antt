@@ -91,7 +91,8 @@ module _ (s : Scale) (x : Index) (t : Trip) (good : checkOutcome s x ≡ Accepte
     module _ (row : RowOk s (tableOf s x) t) (inside : s .cell (t .end) < 2 ^ s .m) where
       -- the row is taken, and the room decides; the directory has the counts
       pub add-room : (a b : Bool)
-          → ltb (length (x .originals)) (entryWords * (getD (x .directory) (length (x .directory) / 2 - 1) 0 + length (slotsOfTrip s Originals t))) ≡ a
+          → ltb (length (x .originals)) (entryWords * (getD (x .directory) (length (x .directory) / 2 - 1) 0 + length
+          (slotsOfTrip s Originals t))) ≡ a
           → ltb (length (x .replicas)) (entryWords * (getD (x .directory) (length (x .directory) - 1) 0 + length (slotsOfTrip s Replicas t))) ≡ b
           → addOutcome s x t ≡ refuse (a || b) NoRoom 0 Accepted
       unfolding refuse noRoom lengthsOf

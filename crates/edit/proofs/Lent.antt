@@ -62,5 +62,6 @@ module _ (s : Scale) (x : Index) (Asks : Half → (dir arena : List ℕ) → Typ
     second-lent = e .ready _ _ _ (second-of s x (e .is-index) _ _ _ (done first-lent))
 
     pub both-back : {g r : List ℕ} → (Asks Replicas (secondHalf x f) (x .replicas) → HalfOf s Replicas ts x g r)
-        → index (putMid (length (x .directory) / 2) (length (x .directory) - length (x .directory) / 2) (firstBack x f) g) o r ≡ layout s ts (lengthsOf x)
+        → index (putMid (length (x .directory) / 2) (length (x .directory) - length (x .directory) / 2) (firstBack x f) g) o r
+        ≡ layout s ts (lengthsOf x)
     both-back last = both-of s x (e .is-index) _ _ _ (done first-lent) _ _ (last second-lent)

@@ -16,14 +16,15 @@ use Rattle.layout.proofs.Chains.{refused-not}
 use Rattle.layout.proofs.Checked.{check-bounds}
 use Rattle.edit.proofs.Chained.{is-accepted}
 
-module _ (n : Numbers) (x : Index) {o : Outcome} {b : Bool} (is : o ≡ checkOutcome (scaleOf n) x) (said : b ≡ isAccepted o) (left : not b ≡ false) where
-  accepted : checkOutcome (scaleOf n) x ≡ Accepted
-  accepted = sym is ∙ is-accepted o (sym said ∙ not-false b left)
+module _ (n : Numbers) (x : Index) {o : Outcome} {b : Bool} (is : o ≡ checkOutcome (scaleOf n) x) (said : b ≡ isAccepted o) (left : not b ≡ false)
+  where
+    accepted : checkOutcome (scaleOf n) x ≡ Accepted
+    accepted = sym is ∙ is-accepted o (sym said ∙ not-false b left)
 
-  -- a ruler out of bounds would have been refused
-  pub not-out : {A : Type 0} {j : Judged} → j ≡ judge n → j ≡ OutOfBounds → A
-  unfolding scaleOf
-  not-out e q = refused-not _ _ (check-bounds (scaleOf n) x (judged-out n (sym e ∙ q)) ∙ accepted)
+    -- a ruler out of bounds would have been refused
+    pub not-out : {A : Type 0} {j : Judged} → j ≡ judge n → j ≡ OutOfBounds → A
+    unfolding scaleOf
+    not-out e q = refused-not _ _ (check-bounds (scaleOf n) x (judged-out n (sym e ∙ q)) ∙ accepted)
 
-  pub opening : (r : Ruler) {j : Judged} → j ≡ judge n → j ≡ Good r → (inBounds (r .numbers) ≡ true) × (checkOutcome (scale r) x ≡ Accepted)
-  opening r e q = let made = judged-good n r (sym e ∙ q) in (rw (made .numbers) (made .good), rw (made .numbers) accepted)
+    pub opening : (r : Ruler) {j : Judged} → j ≡ judge n → j ≡ Good r → (inBounds (r .numbers) ≡ true) × (checkOutcome (scale r) x ≡ Accepted)
+    opening r e q = let made = judged-good n r (sym e ∙ q) in (rw (made .numbers) (made .good), rw (made .numbers) accepted)

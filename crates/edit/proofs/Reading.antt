@@ -221,10 +221,12 @@ module _ (s : Scale) (x : Index) (h : Indexed s x) where
 
     -- both halves back are the whole index of the trips
     pub both-of : (g r : List ℕ) → HalfOf s Replicas ts x g r
-        → index (putMid (length (x .directory) / 2) (length (x .directory) - length (x .directory) / 2) (firstBack x f) g) o r ≡ layout s ts (lengthsOf x)
+        → index (putMid (length (x .directory) / 2) (length (x .directory) - length (x .directory) / 2) (firstBack x f) g) o r
+        ≡ layout s ts (lengthsOf x)
     unfolding layout lengthsOf
     both-of g r v =
-        let d = put-both s ts (length (x .directory)) (directory-long s x h) (x .directory) f g refl long-f ∙ ap₂ _++_ (w .directory-is) (v .directory-is) in
+        let d = put-both s ts (length (x .directory)) (directory-long s x h) (x .directory) f g refl long-f
+        ∙ ap₂ _++_ (w .directory-is) (v .directory-is) in
         let a = w .arena-is in
         let b = v .arena-is in
         λ i. record { directory = d i; originals = a i; replicas = b i }

@@ -69,7 +69,8 @@ module _ (s : Scale) (half : Half) (x : Index) (t : Trip) (dir arena : List ℕ)
         let l = slot s half (tableOf s x) spot in
         let d = subdivisionAt half spot in
         let gone = remove-place d t l (slot-sorted s half (tableOf s x) spot distinct) (slot-distinct s half (tableOf s x) spot distinct) has in
-        let taken = halfway-turn _ _ _ _ (spots s half x t (without (t .id) (tableOf s x)) dir arena passing) j h (removed (placeIn half spot t (shrunkSlots j)))
+        let taken = halfway-turn _ _ _ _ (spots s half x t (without (t .id) (tableOf s x)) dir arena passing) j h
+        (removed (placeIn half spot t (shrunkSlots j)))
         (slot-without s half t (tableOf s x) spot distinct (a .present) ∙ sym gone
         ∙ ap (λ (y : List Trip). removed (preceding d t y) l) (sym still)) in
         subst (Holds D′ A′) taken v

@@ -64,7 +64,11 @@ unfolding badSize
 of-badSize table t =
     let l = length table in
     let w = of-nor (not (eqb (l % entryWords) 0)) (ltb mostTrips (l / entryWords)) t in
-    record { whole-rows = eqb→eq (l % entryWords) 0 (of-not-not (eqb (l % entryWords) 0) (w .0)); few-rows = nltb→le mostTrips (l / entryWords) (w .1) }
+    record {
+      whole-rows = eqb→eq (l % entryWords) 0 (of-not-not (eqb (l % entryWords) 0) (w .0));
+      few-rows = nltb→le mostTrips (l / entryWords)
+          (w .1);
+    }
 
 pub to-badSize : (table : List ℕ) → Sized table → T (not (badSize table))
 unfolding badSize

@@ -42,7 +42,8 @@ by-partition f g h e (suc n) = omega (arith, e n, by-partition f g h e n, count-
 abbrev heldBy : Scale → Trip → (p : ℕ) → Bool
 heldBy s t p = holdsTrip s (levelOf (s .m) p) (placeOf (s .m) p) t
 
-slots-of : (s : Scale) (t : Trip) (n : ℕ) → count (λ k. inSlot s Originals k t) (2 * n) + count (λ k. inSlot s Replicas k t) (2 * n) ≡ count (heldBy s t) n
+slots-of : (s : Scale) (t : Trip) (n : ℕ) → count (λ k. inSlot s Originals k t) (2 * n) + count (λ k. inSlot s Replicas k t) (2 * n)
+    ≡ count (heldBy s t) n
 unfolding belongs pairOf
 slots-of s t =
     by-partition (λ k. inSlot s Originals k t) (λ k. inSlot s Replicas k t) (heldBy s t) (λ p.

@@ -63,7 +63,13 @@ of-add s x t e =
     let b = refuse-no _ _ 0 _ (a .1) in
     let c = of-rowTests s (tableOf s x) t 0 _ (b .1) in
     let d = refuse-no _ _ 0 _ (c .1) in
-    record { is-index = a .0; not-full = nleb→lt mostTrips (length (tableOf s x)) (b .0); rowOk = c .0; room = of-noRoom s (t ∷ tableOf s x) (lengthsOf x) (d .0) }
+    record {
+      is-index = a .0;
+      not-full = nleb→lt mostTrips (length (tableOf s x)) (b .0);
+      rowOk = c .0;
+      room = of-noRoom s (t ∷ tableOf s x)
+          (lengthsOf x) (d .0);
+    }
 
 pub to-add : (s : Scale) (x : Index) (t : Trip) → Addable s x t → addOutcome s x t ≡ Accepted
 unfolding addOutcome full
@@ -168,7 +174,8 @@ unfolding leaving ifAccepted
 leaving-accepted o x y e = rw e
 
 -- what build gives for a table that it accepts
-pub build-accepted : (s : Scale) (ts : List Trip) (x : Index) → Table s ts (lengthsOf x) → buildOf s (words ts) x ≡ after Accepted (layout s ts (lengthsOf x))
+pub build-accepted : (s : Scale) (ts : List Trip) (x : Index) → Table s ts (lengthsOf x) → buildOf s (words ts) x
+    ≡ after Accepted (layout s ts (lengthsOf x))
 unfolding buildOf
 build-accepted s ts x w = leaving-accepted _ x _ (to-build s ts (lengthsOf x) w) ∙ rw rows-words
 
@@ -226,7 +233,8 @@ module _ (s : Scale) (fair : Fair s) (x : Index) (ts : List Trip) (given : Table
 -- ---- "Room freed by a removal serves the next addition."
 
 -- the words after a removal
-removed-words : (s : Scale) (x : Index) (i : ℕ) → removeOutcome s x i ≡ Accepted → removeOf s x i .words ≡ layout s (without i (tableOf s x)) (lengthsOf x)
+removed-words : (s : Scale) (x : Index) (i : ℕ) → removeOutcome s x i ≡ Accepted → removeOf s x i .words
+    ≡ layout s (without i (tableOf s x)) (lengthsOf x)
 unfolding removeOf
 removed-words s x i a = ap (λ (r : After). r .words) (leaving-accepted _ x _ a)
 
@@ -250,7 +258,8 @@ module _ (s : Scale) (fair : Fair s) (x : Index) (u : Trip) (m : Mem u (tableOf 
       let ix = indexed s fair (without (u .id) ts) y given e in
       let f : In (tableOf s y) (without (u .id) ts) = table-in s fair y (without (u .id) ts) given e in
       let g : In (without (u .id) ts) (tableOf s y) = in-table s fair y (without (u .id) ts) given e in
-      let same : length (tableOf s y) ≡ length (without (u .id) ts) = ap length (table-again s fair (without (u .id) ts) y given e) ∙ back-length s fair (without (u .id) ts) (lengthsOf y) given in
+      let same : length (tableOf s y) ≡ length (without (u .id) ts) = ap length (table-again s fair (without (u .id) ts) y given e)
+      ∙ back-length s fair (without (u .id) ts) (lengthsOf y) given in
       let fresh : (v : Trip) → Mem v (tableOf s y) → v .id ≡ u .id → ⊥ = λ v k q. of-without (u .id) ts v (f v k) .1 q in
       let whole : Distinct (u ∷ tableOf s y) = more (λ v k q. fresh v k (sym q)) (ix .table .rowsOk .distinct) in
       let of-whole : In (u ∷ tableOf s y) ts = λ z k. elim k [ here q ↦ rw q m | there j ↦ of-without (u .id) ts z (f z j) .0 ] in

@@ -29,7 +29,8 @@ pub slotTrips-add : (s : Scale) (d : Subdivision) (L i : ℕ) (t : Trip) (ts : L
 unfolding slotTrips keep sort
 slotTrips-add s d L i t ts = go (belongs s d L i t)
   where
-    go : (b : Bool) → sort (order d) (consIf b t (keep (belongs s d L i) ts)) ≡ cond b (insert (order d) t (sort (order d) (keep (belongs s d L i) ts))) (sort (order d) (keep (belongs s d L i) ts))
+    go : (b : Bool) → sort (order d) (consIf b t (keep (belongs s d L i) ts))
+        ≡ cond b (insert (order d) t (sort (order d) (keep (belongs s d L i) ts))) (sort (order d) (keep (belongs s d L i) ts))
     go true = refl
     go false = refl
 

@@ -32,7 +32,8 @@ module _ (m a b : ℕ) where
       to-within m L i a b (omega arith) (omega (arith, mul-le-mul-right (2 ^ (m - L)) q, p))
 
   below-none : T (within m 0 0 a b) → (L : ℕ) → suc L ≤ m → count (λ i. holds m (suc L) i a b) (2 ^ suc L) ≡ 0
-  below-none t L h = count-none (λ i. holds m (suc L) i a b) (2 ^ suc L) (λ i l s. holds-parent m L i a b s (all-within t L (i / 2) (omega arith) (omega (arith, two-pow-succ L))))
+  below-none t L h = count-none (λ i. holds m (suc L) i a b) (2 ^ suc L)
+      (λ i l s. holds-parent m L i a b s (all-within t L (i / 2) (omega arith) (omega (arith, two-pow-succ L))))
 
   covered : T (within m 0 0 a b) → (L : ℕ) → L ≤ m → heldAbove m a b (suc L) ≤ 1
   covered t zero h = omega (arith, one-level-more m a b 0 h, none-above m a b, count-le (λ i. holds m 0 i a b) 1)
@@ -41,7 +42,12 @@ module _ (m a b : ℕ) where
   uncovered : (T (within m 0 0 a b) → ⊥) → (L : ℕ) → L ≤ m → heldAbove m a b (suc L) ≤ 2 * L
   unfolding holds
   uncovered f zero h =
-      omega (arith, one-level-more m a b 0 h, none-above m a b, count-none (λ i. holds m 0 i a b) 1 (λ i l s. let e : i ≡ 0 = omega arith in f (rw e at s)))
+      omega (
+        arith,
+        one-level-more m a b 0 h,
+        none-above m a b,
+        count-none (λ i. holds m 0 i a b) 1 (λ i l s. let e : i ≡ 0 = omega arith in f (rw e at s)),
+      )
   uncovered f (suc L) h = omega (arith, one-level-more m a b (suc L) h, level-two m (suc L) a b h, uncovered f L (omega arith))
 
   few-in-all : (n : ℕ) → m ≤ n → 0 < n → heldAbove m a b (suc m) ≤ 2 * n

@@ -51,7 +51,8 @@ layout-lengths s ts n d r =
 -- ---- the table that a layout shows
 
 -- "The word of a slot is the number of entries before it; the last word of a half is that half's total."
-pub half-word : (s : Scale) (h : Half) (ts : List Trip) (k : ℕ) → k ≤ 2 * partitions (s .m) → getD (directoryHalf s h ts) k 0 ≡ length (entriesBefore s h ts k)
+pub half-word : (s : Scale) (h : Half) (ts : List Trip) (k : ℕ) → k ≤ 2 * partitions (s .m) → getD (directoryHalf s h ts) k 0
+    ≡ length (entriesBefore s h ts k)
 unfolding directoryHalf halfLength
 half-word s h ts k l = getD-upTo (λ j. length (entriesBefore s h ts j)) (2 * partitions (s .m) + 1) k 0 (omega arith)
 
@@ -63,7 +64,8 @@ pub table-of-layout : (s : Scale) (ts : List Trip) (n : Lengths) → tableOf s (
 unfolding tableOf layout arena padded halfLength
 table-of-layout s ts n =
     let o = directoryHalf s Originals ts in
-    let last = List·getD-append o (directoryHalf s Replicas ts) 0 (2 * partitions (s .m)) (rw directoryHalf-length (omega arith)) ∙ last-word s Originals ts in
+    let last = List·getD-append o (directoryHalf s Replicas ts) 0 (2 * partitions (s .m)) (rw directoryHalf-length (omega arith))
+    ∙ last-word s Originals ts in
     rw last (rows-front (entries s Originals ts) _)
 
 -- ---- an accepted table's originals, read back as a table, are accepted too, and have its index

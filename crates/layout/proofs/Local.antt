@@ -100,7 +100,8 @@ module _ (s : Scale) (fair : Fair s) (o p : ℕ → List Trip) (w : Proper s o p
       let same : joined o n ≡ joined (slot s Originals table) n = joined-ext o (slot s Originals table) n originals-are in
       let many = ap length same ∙ length-joined (slot s Originals table) n in
       sum-tight (λ k. length (p k)) (λ k. length (slot s Replicas table k)) n
-      (λ k h. no-longer (slot-order (subdivisionAt Replicas k)) (w .replicas .sorted k h) (slot-sorted s Replicas table (w .distinct) k) (replica-in k h))
+      (λ k h. no-longer (slot-order (subdivisionAt Replicas k)) (w .replicas .sorted k h) (slot-sorted s Replicas table (w .distinct) k)
+      (replica-in k h))
       (omega (arith, w .total, slots-sum s table, length-joined p n))
 
   pub replicas-are : (k : ℕ) → k < slotsOf s → p k ≡ slot s Replicas (joined o (slotsOf s)) k

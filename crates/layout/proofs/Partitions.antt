@@ -27,7 +27,8 @@ of-within m L i a b t =
 
 pub to-within : (m L i a b : ℕ) → a ≤ i * 2 ^ (m - L) → (i + 1) * 2 ^ (m - L) ≤ b + 1 → T (within m L i a b)
 unfolding within firstCell lastCell
-to-within m L i a b p q = to-and (leb a (firstCell m L i)) (leb (lastCell m L i) b) (le→leb a (firstCell m L i) p) (le→leb (lastCell m L i) b (omega arith))
+to-within m L i a b p q = to-and (leb a (firstCell m L i)) (leb (lastCell m L i) b) (le→leb a (firstCell m L i) p)
+    (le→leb (lastCell m L i) b (omega arith))
 
 -- a partition whose parent lies in a..b lies in a..b
 pub within-child : (m L i a b : ℕ) → suc L ≤ m → T (within m L (i / 2) a b) → T (within m (suc L) i a b)

@@ -26,7 +26,8 @@ use Rattle.layout.proofs.Indexes.{directoryHalf-length, half-word, Inde
 
 module _ (s : Scale) (h : Half) (ts : List Trip) (L i : ℕ) (deep : L ≤ s .m) where
   -- slot q from the "in" slot of partition i on is one of partition i + q / 2, and an "aft" slot where q is odd
-  pub slot-from : (q : ℕ) → i + q / 2 < 2 ^ L → slot s h ts (2 * partitionNumber L i + q) ≡ slotTrips s (subdivisionOf h (eqb (q % 2) 1)) L (i + q / 2) ts
+  pub slot-from : (q : ℕ) → i + q / 2 < 2 ^ L → slot s h ts (2 * partitionNumber L i + q)
+      ≡ slotTrips s (subdivisionOf h (eqb (q % 2) 1)) L (i + q / 2) ts
   unfolding slot partitionNumber
   slot-from q there =
       let side : (2 * (2 ^ L - 1 + i) + q) % 2 ≡ q % 2 = omega arith in

@@ -34,7 +34,8 @@ module _ (m a b qa qb : ℕ) where
         is-held = w .0;
         from = leb→le (cellUp m L qa) i (v .0);
         to = leb→le i (cellUp m L qb) (v .1);
-        kind = elim (of-or (eqb (cellUp m L a) i) (eqb (cellUp m L qa) i) (u .1)) [ inl p ↦ inl (eqb→eq (cellUp m L a) i p) | inr p ↦ inr (eqb→eq (cellUp m L qa) i p) ];
+        kind = elim (of-or (eqb (cellUp m L a) i) (eqb (cellUp m L qa) i) (u .1))
+            [ inl p ↦ inl (eqb→eq (cellUp m L a) i p) | inr p ↦ inr (eqb→eq (cellUp m L qa) i p) ];
       }
 
   -- whatever is reported shares a cell with the window
@@ -65,7 +66,8 @@ module _ (m a b qa qb : ℕ) where
     to-reported L t =
         to-and (holds m L (cellUp m L x) a b) _ t
         (to-and (leb (cellUp m L qa) (cellUp m L x) && leb (cellUp m L x) (cellUp m L qb)) _
-        (to-and (leb (cellUp m L qa) (cellUp m L x)) _ (le→leb (cellUp m L qa) (cellUp m L x) (up-mono m L qa x qx)) (le→leb (cellUp m L x) (cellUp m L qb) (up-mono m L x qb xq)))
+        (to-and (leb (cellUp m L qa) (cellUp m L x)) _ (le→leb (cellUp m L qa) (cellUp m L x) (up-mono m L qa x qx))
+        (le→leb (cellUp m L x) (cellUp m L qb) (up-mono m L x qb xq)))
         (kind first))
       where
         kind : (x ≡ a) ⊎ (x ≡ qa) → T (eqb (cellUp m L a) (cellUp m L x) || eqb (cellUp m L qa) (cellUp m L x))

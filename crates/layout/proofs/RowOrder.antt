@@ -38,11 +38,13 @@ data Keyed (a i b j : ℕ) : Type 0 where
   tied : a ≡ b → i < j → Keyed a i b j
 
 of-keyed : (a i b j : ℕ) → T (keyed a i b j) → Keyed a i b j
-of-keyed a i b j t = elim (of-or (ltb a b) (eqb a b && ltb i j) t) [ inl p ↦ less (ltb→lt a b p) | inr q ↦ let w = of-and (eqb a b) (ltb i j) q in tied (eqb→eq a b (w .0)) (ltb→lt i j (w .1)) ]
+of-keyed a i b j t = elim (of-or (ltb a b) (eqb a b && ltb i j) t)
+    [ inl p ↦ less (ltb→lt a b p) | inr q ↦ let w = of-and (eqb a b) (ltb i j) q in tied (eqb→eq a b (w .0)) (ltb→lt i j (w .1)) ]
 
 to-keyed : (a i b j : ℕ) → Keyed a i b j → T (keyed a i b j)
 to-keyed a i b j (less p) = or-left (ltb a b) (eqb a b && ltb i j) (lt→ltb a b p)
-to-keyed a i b j (tied e q) = or-right (ltb a b) (eqb a b && ltb i j) (to-and (eqb a b) (ltb i j) (subst (λ (k : ℕ). T (eqb a k)) e (eqb-refl a)) (lt→ltb i j q))
+to-keyed a i b j (tied e q) = or-right (ltb a b) (eqb a b && ltb i j)
+    (to-and (eqb a b) (ltb i j) (subst (λ (k : ℕ). T (eqb a k)) e (eqb-refl a)) (lt→ltb i j q))
 
 keyed-asym : (a i b j : ℕ) → Keyed a i b j → Keyed b j a i → ⊥
 keyed-asym a i b j (less p) (less q) = omega arith

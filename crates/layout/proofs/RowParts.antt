@@ -46,7 +46,8 @@ module _ (n : ℕ) (l : List ℕ) (h : n ≤ length l / entryWords) where
 -- the entries a up to c of an arena are those a up to b and b up to c
 pub rows-apart : (l : List ℕ) (a b c : ℕ) → a ≤ b → b ≤ c → entryWords * c ≤ length l
     → rows (take (entryWords * c - entryWords * a) (drop (entryWords * a) l))
-    ≡ rows (take (entryWords * b - entryWords * a) (drop (entryWords * a) l)) ++ rows (take (entryWords * c - entryWords * b) (drop (entryWords * b) l))
+    ≡ rows (take (entryWords * b - entryWords * a) (drop (entryWords * a) l)) ++ rows
+    (take (entryWords * c - entryWords * b) (drop (entryWords * b) l))
 unfolding entryWords
 rows-apart l a b c h g room =
     let n = entryWords * b - entryWords * a in
@@ -66,12 +67,20 @@ words-between : (a b c : List Trip) (z : List ℕ)
 words-between a b c z =
     let n : entryWords * length (a ++ b) - entryWords * length a ≡ length (words b) =
     rw (length-append, words-length b) (omega (arith, words-add (length a) (length b))) in
-    rw (n, words-append, words-append, append-assoc, append-assoc, drop-at (words a) (words b ++ (words c ++ z)) (entryWords * length a) (words-length a))
+    rw (
+      n,
+      words-append,
+      words-append,
+      append-assoc,
+      append-assoc,
+      drop-at (words a) (words b ++ (words c ++ z)) (entryWords * length a) (words-length a),
+    )
     (take-at (words b) (words c ++ z) (length (words b)) refl)
 
 -- the lists j .. j + c - 1 of n, by the words of those before them and up to their end; z are the words after all
 pub words-joined : (f : ℕ → List Trip) (n j c : ℕ) (z : List ℕ) → j + c ≤ n
-    → take (entryWords * length (joined f (j + c)) - entryWords * length (joined f j)) (drop (entryWords * length (joined f j)) (words (joined f n) ++ z))
+    → take (entryWords * length (joined f (j + c)) - entryWords * length (joined f j))
+    (drop (entryWords * length (joined f j)) (words (joined f n) ++ z))
     ≡ words (joined (λ i. f (j + i)) c)
 words-joined f n j c z h =
     let some = joined (λ i. f (j + i)) c in

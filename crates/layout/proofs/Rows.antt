@@ -101,7 +101,8 @@ pub rows-cons : (t : Trip) (l : List ℕ) → rows (tripWords t ++ l) ≡ t ∷ 
 unfolding rows
 rows-cons t l =
     let n = length l / entryWords in
-    let many : length (tripWords t ++ l) / entryWords ≡ suc n = ap (λ (k : ℕ). k / entryWords) (length-append (tripWords t) l ∙ ap (λ (k : ℕ). k + length l) (tripWords-length t)) ∙ one-more (length l) in
+    let many : length (tripWords t ++ l) / entryWords ≡ suc n = ap (λ (k : ℕ). k / entryWords)
+    (length-append (tripWords t) l ∙ ap (λ (k : ℕ). k + length l) (tripWords-length t)) ∙ one-more (length l) in
     ap (upTo (tripAt (tripWords t ++ l))) many ∙ upTo-cons (tripAt (tripWords t ++ l)) n
     ∙ ap₂ _∷_ (tripAt-first t l) (upTo-ext _ _ n (λ k h. tripAt-later t l k))
 

@@ -79,19 +79,30 @@ module _ (s : Scale) (fair : Fair s) (ts : List Trip) where
       go L i h l w true q =
           let k = partitionNumber L i * 2 in
           let a : k / 2 ≡ partitionNumber L i = omega arith in
-          let b : k % 2 ≡ 0 = omega arith in
-          (k, omega (arith, number-lt (s .m) L i h l), to-slot s Originals ts k t m (rw (a, b, level-number (s .m) L i h l, place-number (s .m) L i h l) (to-sub (holdsTrip s L i t) (isOriginal s L i t) (isIn s L i t) false w q)))
+          let b : k % 2 ≡ 0 = omega arith in (
+            k,
+            omega (arith, number-lt (s .m) L i h l),
+            to-slot s Originals ts k t m
+                (rw (a, b, level-number (s .m) L i h l, place-number (s .m) L i h l)
+                (to-sub (holdsTrip s L i t) (isOriginal s L i t) (isIn s L i t) false w q)),
+          )
       go L i h l w false q =
           let k = partitionNumber L i * 2 + 1 in
           let a : k / 2 ≡ partitionNumber L i = omega arith in
-          let b : k % 2 ≡ 1 = omega arith in
-          (k, omega (arith, number-lt (s .m) L i h l), to-slot s Originals ts k t m (rw (a, b, level-number (s .m) L i h l, place-number (s .m) L i h l) (to-sub (holdsTrip s L i t) (isOriginal s L i t) (isIn s L i t) true w q)))
+          let b : k % 2 ≡ 1 = omega arith in (
+            k,
+            omega (arith, number-lt (s .m) L i h l),
+            to-slot s Originals ts k t m
+                (rw (a, b, level-number (s .m) L i h l, place-number (s .m) L i h l)
+                (to-sub (holdsTrip s L i t) (isOriginal s L i t) (isIn s L i t) true w q)),
+          )
 
   -- what a slot of the originals says of its trips
   of-orig : (t : Trip) (k : ℕ) → Mem t (slot s Originals ts k) → (L i : ℕ) → levelOf (s .m) (k / 2) ≡ L → placeOf (s .m) (k / 2) ≡ i
       → T (holdsTrip s L i t && isOriginal s L i t) × (isIn s L i t ≡ not (eqb (k % 2) 1))
   unfolding belongs
-  of-orig t k m L i el ei = of-sub (holdsTrip s L i t) (isOriginal s L i t) (isIn s L i t) (eqb (k % 2) 1) (rw (el, ei) at (of-slot s Originals ts k t m .1))
+  of-orig t k m L i el ei = of-sub (holdsTrip s L i t) (isOriginal s L i t) (isIn s L i t) (eqb (k % 2) 1)
+      (rw (el, ei) at (of-slot s Originals ts k t m .1))
 
   pub slot-once : (t : Trip) → Fits s t → (j k : ℕ) → j < 2 * partitions (s .m) → k < 2 * partitions (s .m)
       → Mem t (slot s Originals ts j) → Mem t (slot s Originals ts k) → j ≡ k

@@ -11,7 +11,14 @@ use Rattle.layout.specs.Calls.{ifAccepted, leaving, buildOf, addOf, with
 use Rattle.layout.specs.Examples.{ruler, trip, window, seven, three, nine, four, theIndex, cells, stored, inAll, is, lists, refuses, nightIds, asRow, asWindow, starred, fullness}
 
 pub starred-hold : T (every starred)
-unfolding every same count padded keep insert sort joined upTo inBounds scaleOf cellUp judge codeOf related partitionsAt firstCell lastCell within holds holdsTrip isOriginal isIn subdivisionOf isOf belongs entryWords tripWords tripAt words rows partitions directoryLength halfLength partitionNumber levelOf placeOf slotNumber byId byStart byEnd order slotTrips slot entriesBefore entries directoryHalf arena lengthsOf layout matches answer answerTo over subdivisionNumber subdivisionNumbered levelCount levelRow census halfOf isAft runWords runFrom isAccepted refuse outOfBounds badSize full badDirectory offRuler backward hasId noRoom exceeds noSuchCode partitionsHolding inTooMany noSuchSlot timeTests rowTests firstBadRow buildOutcome tableOf sameIndex gives isIndex indexTests addOutcome removeOutcome windowTests roomTest askOutcome runOutcome checkOutcome ifAccepted leaving buildOf addOf without removeOf askOf noCensus censusOf runOf runFromOf ruler trip window seven three nine four theIndex cells stored inAll is lists refuses nightIds asRow asWindow starred fullness
+unfolding every same count padded keep insert sort joined upTo inBounds scaleOf cellUp judge codeOf related partitionsAt firstCell lastCell within
+    holds holdsTrip isOriginal isIn subdivisionOf isOf belongs entryWords tripWords tripAt words rows partitions directoryLength halfLength
+    partitionNumber levelOf placeOf slotNumber byId byStart byEnd order slotTrips slot entriesBefore entries directoryHalf arena lengthsOf layout
+    matches answer answerTo over subdivisionNumber subdivisionNumbered levelCount levelRow census halfOf isAft runWords runFrom isAccepted refuse
+    outOfBounds badSize full badDirectory offRuler backward hasId noRoom exceeds noSuchCode partitionsHolding inTooMany noSuchSlot timeTests rowTests
+    firstBadRow buildOutcome tableOf sameIndex gives isIndex indexTests addOutcome removeOutcome windowTests roomTest askOutcome runOutcome
+    checkOutcome ifAccepted leaving buildOf addOf without removeOf askOf noCensus censusOf runOf runFromOf ruler trip window seven three nine four
+    theIndex cells stored inAll is lists refuses nightIds asRow asWindow starred fullness
 starred-hold = tt
 
 -- the edge of a full index, computed on tables of 4,095 and 4,096 trips

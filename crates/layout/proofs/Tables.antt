@@ -25,7 +25,8 @@ pub record RowOk (s : Scale) (beside : List Trip) (t : Trip) : Type 0 where
   pub fresh : (u : Trip) → Mem u beside → u .id ≡ t .id → ⊥
   pub few : partitionsHolding s t ≤ mostPartitions
 
-pub of-rowTests : (s : Scale) (beside : List Trip) (t : Trip) (k : ℕ) (rest : Outcome) → rowTests s beside t k rest ≡ Accepted → RowOk s beside t × (rest ≡ Accepted)
+pub of-rowTests : (s : Scale) (beside : List Trip) (t : Trip) (k : ℕ) (rest : Outcome) → rowTests s beside t k rest ≡ Accepted → RowOk s beside t
+    × (rest ≡ Accepted)
 unfolding rowTests timeTests
 of-rowTests s beside t k rest e =
     let a = refuse-no _ _ k _ e in
@@ -51,7 +52,8 @@ pub record RowsOk (s : Scale) (earlier ts : List Trip) : Type 0 where
   pub distinct : Distinct ts
   pub fresh : (t u : Trip) → Mem t ts → Mem u earlier → u .id ≡ t .id → ⊥
 
-pub rows-more : (s : Scale) (earlier : List Trip) (t : Trip) (ts : List Trip) → RowOk s earlier t → RowsOk s (t ∷ earlier) ts → RowsOk s earlier (t ∷ ts)
+pub rows-more : (s : Scale) (earlier : List Trip) (t : Trip) (ts : List Trip) → RowOk s earlier t → RowsOk s (t ∷ earlier) ts
+    → RowsOk s earlier (t ∷ ts)
 rows-more s earlier t ts r w = record {
   fits = λ u m. elim m [ here e ↦ subst (Fits s) (sym e) (r .fits) | there q ↦ w .fits u q ];
   few = λ u m. elim m [ here e ↦ subst (λ (v : Trip). partitionsHolding s v ≤ mostPartitions) (sym e) (r .few) | there q ↦ w .few u q ];
@@ -105,7 +107,8 @@ pub record Table (s : Scale) (ts : List Trip) (n : Lengths) : Type 0 where
   pub rowsOk : RowsOk s [] ts
   pub room : Room s ts n
 
-pub of-build : (s : Scale) (table : List ℕ) (n : Lengths) → buildOutcome s table n ≡ Accepted → Table s (rows table) n × (length table % entryWords ≡ 0)
+pub of-build : (s : Scale) (table : List ℕ) (n : Lengths) → buildOutcome s table n ≡ Accepted → Table s (rows table) n
+    × (length table % entryWords ≡ 0)
 unfolding buildOutcome
 of-build s table n e =
     let a = refuse-no _ _ 0 _ e in

@@ -29,7 +29,8 @@ unfolding levelCount partitionsAt firstRuns
 count-runs s ts L d deep = rw (le-leb L (s .m) deep)
 
 -- a count is the lengths of the level's runs, added up
-pub count-sum : (s : Scale) (ts : List Trip) (L : ℕ) (d : Subdivision) → L ≤ s .m → levelCount s ts L d ≡ sumTo (λ i. length (slotTrips s d L i ts)) (2 ^ L)
+pub count-sum : (s : Scale) (ts : List Trip) (L : ℕ) (d : Subdivision) → L ≤ s .m → levelCount s ts L d
+    ≡ sumTo (λ i. length (slotTrips s d L i ts)) (2 ^ L)
 unfolding firstRuns
 count-sum s ts L d deep = count-runs s ts L d deep ∙ length-joined (λ i. slotTrips s d L i ts) (2 ^ L)
 
@@ -55,16 +56,27 @@ module _ (s : Scale) (h : Half) (ts : List Trip) where
   -- the entries before the first slot of a level, and then those of its first n partitions
   partitions-passed : (L n : ℕ) → L ≤ s .m → n ≤ 2 ^ L
       → length (entriesBefore s h ts (slotNumber L n false))
-      ≡ length (entriesBefore s h ts (slotNumber L 0 false)) + (firstRuns s ts L (subdivisionOf h false) n + firstRuns s ts L (subdivisionOf h true) n)
+      ≡ length (entriesBefore s h ts (slotNumber L 0 false)) +
+      (firstRuns s ts L (subdivisionOf h false) n + firstRuns s ts L (subdivisionOf h true) n)
   unfolding firstRuns joined
   partitions-passed L zero deep l = omega arith
   partitions-passed L (suc n) deep l =
       let k = slotNumber L n false in
-      let even : length (slot s h ts k) ≡ length (slotTrips s (subdivisionOf h false) L n ts) = ap length (slot-numbered s h ts L n deep (omega arith) false) in
+      let even : length (slot s h ts k) ≡ length (slotTrips s (subdivisionOf h false) L n ts) = ap length
+      (slot-numbered s h ts L n deep (omega arith) false) in
       let odd : length (slot s h ts (k + 1)) ≡ length (slotTrips s (subdivisionOf h true) L n ts) =
       ap length (ap (slot s h ts) (sym (aft-next L n)) ∙ slot-numbered s h ts L n deep (omega arith) true) in
       let next : slotNumber L (suc n) false ≡ k + 1 + 1 = omega (arith, slots-apart L (suc n) false, slots-apart L n false) in
-      rw (next, before-more s h ts (k + 1), before-more s h ts k, even, odd, partitions-passed L n deep (omega arith), length-append, length-append) (omega arith)
+      rw (
+        next,
+        before-more s h ts (k + 1),
+        before-more s h ts k,
+        even,
+        odd,
+        partitions-passed L n deep (omega arith),
+        length-append,
+        length-append,
+      ) (omega arith)
 
   -- the entries of the levels before L stand before the first slot of level L
   levels-passed : (L : ℕ) → L ≤ suc (s .m) → length (entriesBefore s h ts (2 * (2 ^ L - 1))) ≡ sumTo levelEntries L

@@ -66,7 +66,13 @@ module _ (s : Scale) (x : Index) (L i d : ℕ) where
       let b = refuse-no _ _ 0 _ (a .1) .0 in
       let level = of-nor (ltb (s .m) L) (leb (2 ^ L) i || ltb lastSubdivision d) b in
       let place = of-nor (leb (2 ^ L) i) (ltb lastSubdivision d) (level .1) in
-      record { is-index = a .0; deep = nltb→le (s .m) L (level .0); there = nleb→lt (2 ^ L) i (place .0); one-of = nltb→le lastSubdivision d (place .1) }
+      record {
+        is-index = a .0;
+        deep = nltb→le (s .m) L (level .0);
+        there = nleb→lt (2 ^ L) i (place .0);
+        one-of = nltb→le lastSubdivision d
+            (place .1);
+      }
 
   pub run-accepted : runOutcome s x L i d ≡ Accepted → runOf s x L i d ≡ runWords s (tableOf s x) L i (subdivisionNumbered d)
   unfolding runOf

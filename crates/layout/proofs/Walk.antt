@@ -86,7 +86,8 @@ ends m zero a b lo hi i h f w t = let p = w .into i t in last (omega arith) (ome
 ends m (suc L) a b lo hi i h f w t =
     let p = w .into i (holds-within m (suc L) i a b t) in
     go (p .0) (p .1) (decLt lo i) (decLt (i + 1) hi) (ℕ-discrete (i % 2) 1)
-    (λ q s. holds-parent m L i a b t (parent m L (i / 2) a b h (w .back (i / 2 * 2) (omega arith) (omega arith)) (w .back (i / 2 * 2 + 1) (omega arith) (omega arith))))
+    (λ q s. holds-parent m L i a b t (parent m L (i / 2) a b h (w .back (i / 2 * 2) (omega arith) (omega arith))
+    (w .back (i / 2 * 2 + 1) (omega arith) (omega arith))))
   where
     go : lo ≤ i → i < hi → Dec (lo < i) → Dec (i + 1 < hi) → Dec (i % 2 ≡ 1) → (lo ≤ i / 2 * 2 → i / 2 * 2 + 1 < hi → ⊥) → Ends lo hi i
     go x y (yes p) d (yes o) f = absurd (f (omega arith) (omega arith))
@@ -205,7 +206,8 @@ those-visit half test L i j ca cb aft =
         → consIf ((test && eqb i j) && (inHalf half (eqb ca i) && onSide aft (eqb cb i))) (slotNumber L j aft) []
         ≡ consIf ((test && eqb i j) && (inHalf half (eqb ca j) && onSide aft (eqb cb j))) (slotNumber L j aft) []
     go (yes q) = ap (λ (x : ℕ). consIf ((test && eqb i j) && (inHalf half (eqb ca x) && onSide aft (eqb cb x))) (slotNumber L j aft) []) q
-    go (no n) = rw (ne-eqb i j n) (no-test test (inHalf half (eqb ca i) && onSide aft (eqb cb i)) (inHalf half (eqb ca j) && onSide aft (eqb cb j)) (slotNumber L j aft))
+    go (no n) = rw (ne-eqb i j n) (no-test test (inHalf half (eqb ca i) && onSide aft (eqb cb i))
+        (inHalf half (eqb ca j) && onSide aft (eqb cb j)) (slotNumber L j aft))
 
 -- ---- every slot that is visited is one of the levels that the walk has
 
@@ -291,7 +293,10 @@ module _ (m a b : ℕ) (half : Half) where
       let W = inHalf half (eqb ca j) && onSide aft (eqb cb j) in
       those-append k v₁ (v₂ ++ rest)
       ∙ ap (λ (x : List ℕ). those k v₁ ++ x) (those-append k v₂ rest ∙ ap (λ (x : List ℕ). those k v₂ ++ x) z)
-      ∙ rw (those-visit half (ltb lo hi && eqb (lo % 2) 1) L lo j ca cb aft, those-visit half (ltb lo hi && eqb (hi % 2) 1) L (hi / 2 * 2) j ca cb aft)
+      ∙ rw (
+        those-visit half (ltb lo hi && eqb (lo % 2) 1) L lo j ca cb aft,
+        those-visit half (ltb lo hi && eqb (hi % 2) 1) L (hi / 2 * 2) j ca cb aft,
+      )
       (either (low lo hi j) (high lo hi j) W k (not-both lo hi j) ∙ ap (λ (x : Bool). consIf (x && W) k []) (sym (low-or-high m L a b lo hi j h f w)))
 
   -- a slot of a higher level is not one of level L's
@@ -312,11 +317,14 @@ module _ (m a b : ℕ) (half : Half) where
   unfolding walk
   walked zero lo hi h f w K j aft k l = let e : K ≡ 0 = omega arith in rw e (at-level 0 lo hi h f w j aft)
   walked (suc L) lo hi h f w K j aft k l =
-      go (ℕ-discrete K (suc L)) (walked L ((lo + 1) / 2) (hi / 2) (omega arith) (omega (arith, two-pow-succ (suc L))) (higher m L a b lo hi h w) K j aft)
+      go (ℕ-discrete K (suc L)) (walked L ((lo + 1) / 2) (hi / 2) (omega arith) (omega (arith, two-pow-succ (suc L))) (higher m L a b lo hi h w) K
+      j aft)
     where
       go : Dec (K ≡ suc L)
-          → (K ≤ L → j < 2 ^ K → those (slotNumber K j aft) (walk half (suc L) ((lo + 1) / 2) (hi / 2) (cellUp m L a) (cellUp m L b)) ≡ consIf (thereIn K j aft) (slotNumber K j aft) [])
-          → those (slotNumber K j aft) (walk half (suc (suc L)) lo hi (cellUp m (suc L) a) (cellUp m (suc L) b)) ≡ consIf (thereIn K j aft) (slotNumber K j aft) []
+          → (K ≤ L → j < 2 ^ K → those (slotNumber K j aft) (walk half (suc L) ((lo + 1) / 2) (hi / 2) (cellUp m L a) (cellUp m L b))
+          ≡ consIf (thereIn K j aft) (slotNumber K j aft) [])
+          → those (slotNumber K j aft) (walk half (suc (suc L)) lo hi (cellUp m (suc L) a) (cellUp m (suc L) b))
+          ≡ consIf (thereIn K j aft) (slotNumber K j aft) []
       go (yes e) ih = rw e (at-level (suc L) lo hi h f w j aft)
       go (no n) ih =
           let s = slotNumber K j aft in

@@ -14,7 +14,8 @@ unfolding count
 last-one g zero c h = absurd (omega arith)
 last-one g (suc n) c h = go (g n) refl (last-one g n c)
   where
-    go : (b : Bool) → g n ≡ b → (suc c ≤ count g n → (k : ℕ) × (k < n) × T (g k) × (c ≤ count g k)) → (k : ℕ) × (k < suc n) × T (g k) × (c ≤ count g k)
+    go : (b : Bool) → g n ≡ b → (suc c ≤ count g n → (k : ℕ) × (k < n) × T (g k) × (c ≤ count g k)) → (k : ℕ) × (k < suc n) × T (g k)
+        × (c ≤ count g k)
     go true e ih = let q : suc c ≤ suc (count g n) = rw e at h in (n, omega arith, rw e tt, omega arith)
     go false e ih = let w = ih (rw e at h) in (w .0, omega arith, w .2, w .3)
 
@@ -33,7 +34,8 @@ unfolding count
 count-add g n zero = rw add-zero (sym (add-zero (count g n)))
 count-add g n (suc k) = rw (add-suc n k) (go (g (n + k)) (count-add g n k))
   where
-    go : (b : Bool) → count g (n + k) ≡ count g n + count (λ i. g (n + i)) k → oneMore b (count g (n + k)) ≡ count g n + oneMore b (count (λ i. g (n + i)) k)
+    go : (b : Bool) → count g (n + k) ≡ count g n + count (λ i. g (n + i)) k → oneMore b (count g (n + k))
+        ≡ count g n + oneMore b (count (λ i. g (n + i)) k)
     go true e = omega arith
     go false e = e
 

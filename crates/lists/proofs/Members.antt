@@ -151,7 +151,8 @@ module _ {A : Type 0} {R : A → A → Type 0} where
   pub pairs-append : {l k : List A} → Pairs R l → Pairs R k → ((x y : A) → Mem x l → Mem y k → R x y) → Pairs R (l ++ k)
   pairs-append none e h = e
   pairs-append {k = k} (more {x = x} {l = l} a d) e h =
-      more {x = x} (λ y m. elim (append-cases l {t = k} m) [ inl n ↦ a y n | inr n ↦ h x y (here refl) n ]) (pairs-append d e (λ u y m. h u y (there m)))
+      more {x = x} (λ y m. elim (append-cases l {t = k} m) [ inl n ↦ a y n | inr n ↦ h x y (here refl) n ])
+      (pairs-append d e (λ u y m. h u y (there m)))
 
   module _ (symm : (x y : A) → R x y → R y x) (lt : A → A → Bool) where
     pairs-insert : (x : A) (l : List A) → ((y : A) → Mem y l → R x y) → Pairs R l → Pairs R (insert lt x l)

@@ -21,7 +21,8 @@ module _ {A : Type 0} {lt : A → A → Bool} (o : StrictOrder lt) where
   ]
 
   -- a head that stands further on: all stand further on
-  later-head : {x y : A} {l k : List A} → Mem x k → ((z : A) → Mem z l → T (lt x z)) → ((z : A) → Mem z k → T (lt y z)) → In (x ∷ l) (y ∷ k) → In (x ∷ l) k
+  later-head : {x y : A} {l k : List A} → Mem x k → ((z : A) → Mem z l → T (lt x z)) → ((z : A) → Mem z k → T (lt y z)) → In (x ∷ l) (y ∷ k)
+      → In (x ∷ l) k
   later-head {x} {y} n a b h z m = elim (h z m) [
     | here q ↦ elim m [
       | here e ↦ absurd (loops y (subst (λ (u : A). T (lt y u)) (sym e ∙ q) (b x n)))

@@ -104,8 +104,10 @@ module _ (s : Scale) (fair : Fair s) where
     suits-plan FinishedBy = both (before qs ss) (sameTime qe se) (λ x y. (same qe se y, same qe se y))
     suits-plan Meets = λ x. within (same qe ss x)
     suits-plan MetBy = λ x. (same qs se x, same qs se x)
-    suits-plan Overlaps = both (before qs ss && before ss qe) (before qe se) (λ x y. (less ss qe (of-and (before qs ss) (before ss qe) x .1), less qe se y))
-    suits-plan OverlappedBy = both (before ss qs && before qs se) (before se qe) (λ x y. both (before ss qs) (before qs se) (λ u v. (less ss qs u, less qs se v)) x)
+    suits-plan Overlaps = both (before qs ss && before ss qe) (before qe se)
+        (λ x y. (less ss qe (of-and (before qs ss) (before ss qe) x .1), less qe se y))
+    suits-plan OverlappedBy = both (before ss qs && before qs se) (before se qe)
+        (λ x y. both (before ss qs) (before qs se) (λ u v. (less ss qs u, less qs se v)) x)
     suits-plan Contains = both (before qs ss) (before se qe) (λ x y. (less qs ss x, le-trans along (less se qe y)))
     suits-plan ContainedBy = both (before ss qs) (before qe se) (λ x y. (less ss qs x, le-trans order (less qe se y)))
     suits-plan Before = λ x. (less qe ss x, omega arith)
@@ -125,7 +127,8 @@ module _ (s : Scale) (fair : Fair s) where
   never e = let z : _≡_ {A = ℕ} 0 1 = cc in absurd (omega arith)
 
   pub quick-right : (r : Relationship) (q : Window) → planAt (s .m) r (c (q .start)) (c (q .end)) .quick ≡ true
-      → (t : Trip) → planAt (s .m) r (c (q .start)) (c (q .end)) .low .1 < c (t .end) → c (t .start) < planAt (s .m) r (c (q .start)) (c (q .end)) .high .1
+      → (t : Trip) → planAt (s .m) r (c (q .start)) (c (q .end)) .low .1 < c (t .end)
+      → c (t .start) < planAt (s .m) r (c (q .start)) (c (q .end)) .high .1
       → T (related r q t)
   unfolding related
   quick-right Equals q e = never e

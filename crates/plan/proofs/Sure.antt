@@ -47,7 +47,8 @@ slots-split s h ts L i c n =
 
 -- a level's originals, from partition a to b, in three pieces: the first partition, those between, and the last one's first n slots
 pub three-pieces : (s : Scale) (ts : List Trip) (t : Trip → Bool) (L a b n : ℕ) → a < b
-    → (keep t (slotsFrom s Originals ts L a 2) ++ keep t (slotsFrom s Originals ts L (a + 1) (2 * (b - (a + 1))))) ++ keep t (slotsFrom s Originals ts L b n)
+    → (keep t (slotsFrom s Originals ts L a 2) ++ keep t (slotsFrom s Originals ts L (a + 1) (2 * (b - (a + 1))))) ++ keep t
+    (slotsFrom s Originals ts L b n)
     ≡ keep t (slotsFrom s Originals ts L a (2 * (b - a) + n))
 three-pieces s ts t L a b n h =
     let c = b - (a + 1) in
@@ -175,14 +176,16 @@ module _ (s : Scale) (ts : List Trip) (t : Trip → Bool) (p : Plan) (r : Ranged
       sure (w .0) u (e .row) (ends-after s ts Originals L (p .low .1) u (w .1) e) (starts-earlier s ts L a (p .high .1) u e h))
 
   pub between-sure : a < b
-      → keepUnless (p .quick) t (slotsFrom s Originals ts L (a + 1) (2 * (b - (a + 1)))) ≡ keep t (slotsFrom s Originals ts L (a + 1) (2 * (b - (a + 1))))
+      → keepUnless (p .quick) t (slotsFrom s Originals ts L (a + 1) (2 * (b - (a + 1))))
+      ≡ keep t (slotsFrom s Originals ts L (a + 1) (2 * (b - (a + 1))))
   between-sure h = unless-all (p .quick) t _ (λ f u m.
       let w = of-slots s ts Originals L (a + 1) (2 * (b - (a + 1))) u m in
       let q = w .1 in
       sure f u (w .2 .row) (ends-later s ts L _ (p .low .1) u (w .2) (omega arith)) (starts-earlier s ts L _ (p .high .1) u (w .2) (omega arith)))
 
   pub last-sure : a < b
-      → keepUnless (sureLast p L) t (slotsFrom s Originals ts L b (originalSlots (p .kind))) ≡ keep t (slotsFrom s Originals ts L b (originalSlots (p .kind)))
+      → keepUnless (sureLast p L) t (slotsFrom s Originals ts L b (originalSlots (p .kind)))
+      ≡ keep t (slotsFrom s Originals ts L b (originalSlots (p .kind)))
   last-sure h = unless-all (sureLast p L) t _ (λ f u m.
       let e = of-partition s ts Originals L b _ u (few-slots (p .kind) .0) m in
       let w = of-last f in
@@ -190,7 +193,8 @@ module _ (s : Scale) (ts : List Trip) (t : Trip → Bool) (p : Plan) (r : Ranged
 
   -- the one partition
   pub one-sure : a ≡ b
-      → keepUnless (sureFirst p L && sureLast p L) t (slotsFrom s Originals ts L a (originalSlots (p .kind))) ≡ keep t (slotsFrom s Originals ts L a (originalSlots (p .kind)))
+      → keepUnless (sureFirst p L && sureLast p L) t (slotsFrom s Originals ts L a (originalSlots (p .kind)))
+      ≡ keep t (slotsFrom s Originals ts L a (originalSlots (p .kind)))
   one-sure ab = unless-all (sureFirst p L && sureLast p L) t _ (λ f u m.
       let e = of-partition s ts Originals L a _ u (few-slots (p .kind) .0) m in
       let both = of-and (sureFirst p L) (sureLast p L) (to-T f) in
@@ -199,7 +203,8 @@ module _ (s : Scale) (ts : List Trip) (t : Trip → Bool) (p : Plan) (r : Ranged
       sure (w .0) u (e .row) (ends-after s ts Originals L (p .low .1) u (w .1) e) (starts-before s ts Originals L (p .high .1) u (v .1) (rw ab at e)))
 
   -- the replicas of the first partition
-  pub replicas-sure : keepUnless (sureFirst p L) t (slotsFrom s Replicas ts L a (replicaSlots (p .kind))) ≡ keep t (slotsFrom s Replicas ts L a (replicaSlots (p .kind)))
+  pub replicas-sure : keepUnless (sureFirst p L) t (slotsFrom s Replicas ts L a (replicaSlots (p .kind)))
+      ≡ keep t (slotsFrom s Replicas ts L a (replicaSlots (p .kind)))
   replicas-sure = unless-all (sureFirst p L) t _ (λ f u m.
       let e = of-partition s ts Replicas L a _ u (few-slots (p .kind) .1) m in
       let w = of-first f in

@@ -58,7 +58,8 @@ module _ (m a b low high : ℕ) where
       kind (inr e) = or-right (eqb (cellUp m L a) i) (eqb (cellUp m L low) i) (rw e (eqb-refl i))
 
   -- an original that is met stands in one of the last partition's slots that are looked at
-  original-side : (k : Kind) (L i : ℕ) (e : Bool) → Suits k low high a b → Reported m a b low high L i → e ≡ eqb (cellUp m L b) i → side e < originalSlots k
+  original-side : (k : Kind) (L i : ℕ) (e : Bool) → Suits k low high a b → Reported m a b low high L i → e ≡ eqb (cellUp m L b) i
+      → side e < originalSlots k
   unfolding side
   original-side Starting L i e s w q = side-lt e
   original-side Crossing L i e s w q = side-lt e
@@ -151,7 +152,8 @@ module _
   seen-reported Originals L q t l w =
       let up = up-mono (s .m) L (p .low .1) (p .high .1) ordered in
       let k = few-slots (p .kind) in
-      to-reported (s .m) (A t) (B t) (p .low .1) (p .high .1) L (first L + q / 2) (w .is-held) (omega arith) (omega arith) (inl (eqb-true _ _ (w .which)))
+      to-reported (s .m) (A t) (B t) (p .low .1) (p .high .1) L (first L + q / 2) (w .is-held) (omega arith) (omega arith)
+      (inl (eqb-true _ _ (w .which)))
   seen-reported Replicas L q t l w =
       let up = up-mono (s .m) L (p .low .1) (p .high .1) ordered in
       let k = few-slots (p .kind) in

@@ -28,7 +28,13 @@ bounds n t =
     let a = of-and (leb 1 (n .w) && leb (n .w) widest && leb (n .m) deepest) (leb (n .m) (n .w)) t in
     let b = of-and (leb 1 (n .w) && leb (n .w) widest) (leb (n .m) deepest) (a .0) in
     let c = of-and (leb 1 (n .w)) (leb (n .w) widest) (b .0) in
-    record { some = leb→le 1 (n .w) (c .0); wide = leb→le (n .w) widest (c .1); deep = leb→le (n .m) deepest (b .1); fits = leb→le (n .m) (n .w) (a .1) }
+    record {
+      some = leb→le 1 (n .w) (c .0);
+      wide = leb→le (n .w) widest (c .1);
+      deep = leb→le (n .m) deepest (b .1);
+      fits = leb→le (n .m) (n .w)
+          (a .1);
+    }
 
 pub fair : (n : Numbers) → T (inBounds n) → Fair (scaleOf n)
 unfolding scaleOf

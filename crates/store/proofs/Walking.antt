@@ -38,14 +38,17 @@ walking-start half spots level lo hi ca cb r f i = record { all = refl; many = o
 -- one level of the walk, with some partitions left
 walk-level : (half : Half) (L lo hi ca cb : ℕ) → lo < hi
     → walk half (suc L) lo hi ca cb
-    ≡ visit half (eqb (lo % 2) 1) L lo ca cb ++ (visit half (eqb (hi % 2) 1) L (hi / 2 * 2) ca cb ++ walk half L ((lo + 1) / 2) (hi / 2) (ca / 2) (cb / 2))
+    ≡ visit half (eqb (lo % 2) 1) L lo ca cb ++ (visit half (eqb (hi % 2) 1) L (hi / 2 * 2) ca cb ++ walk half L ((lo + 1) / 2) (hi / 2) (ca / 2)
+    (cb / 2))
 unfolding walk
 walk-level half L lo hi ca cb h = rw (lt-ltb lo hi h)
 
-module _ {half : Half} {spots₀ spots : List ℕ} {n level lo hi ca cb : ℕ} {whole : List ℕ} (w : Walking half spots₀ spots n level lo hi ca cb whole) where
+module _ {half : Half} {spots₀ spots : List ℕ} {n level lo hi ca cb : ℕ} {whole : List ℕ}
+    (w : Walking half spots₀ spots n level lo hi ca cb whole) where
   -- a level's two visits
   pub walking-turn : (spots₁ spots₂ : List ℕ) (n₁ n₂ : ℕ) → 0 < level → lo < hi
-      → (n₁ ≡ n + length (visit half (eqb (lo % 2) 1) (level - 1) lo ca cb)) × (spots₁ ≡ sets spots n (visit half (eqb (lo % 2) 1) (level - 1) lo ca cb))
+      → (n₁ ≡ n + length (visit half (eqb (lo % 2) 1) (level - 1) lo ca cb))
+      × (spots₁ ≡ sets spots n (visit half (eqb (lo % 2) 1) (level - 1) lo ca cb))
       → (n₂ ≡ n₁ + length (visit half (eqb (hi % 2) 1) (level - 1) (hi / 2 * 2) ca cb))
       × (spots₂ ≡ sets spots₁ n₁ (visit half (eqb (hi % 2) 1) (level - 1) (hi / 2 * 2) ca cb))
       → Walking half spots₀ spots₂ n₂ (level - 1) ((lo + 1) / 2) (hi / 2) (ca / 2) (cb / 2) whole
@@ -56,8 +59,10 @@ module _ {half : Half} {spots₀ spots : List ℕ} {n level lo hi ca cb : ℕ} {
       let rest = walk half L ((lo + 1) / 2) (hi / 2) (ca / 2) (cb / 2) in
       let up : level ≡ suc L = omega arith in
       let now : walk half level lo hi ca cb ≡ v ++ (u ++ rest) = ap (λ (k : ℕ). walk half k lo hi ca cb) up ∙ walk-level half L lo hi ca cb l in
-      let split : sets spots n (v ++ (u ++ rest)) ≡ sets spots₂ n₂ rest = sets-append spots n v (u ++ rest) ∙ rw (← e .0, ← e .1) (sets-append spots₁ n₁ u rest ∙ rw (← f .0, ← f .1)) in
-      let total : length (v ++ (u ++ rest)) ≡ length v + (length u + length rest) = length-append v (u ++ rest) ∙ ap (λ (k : ℕ). length v + k) (length-append u rest) in
+      let split : sets spots n (v ++ (u ++ rest)) ≡ sets spots₂ n₂ rest = sets-append spots n v (u ++ rest)
+      ∙ rw (← e .0, ← e .1) (sets-append spots₁ n₁ u rest ∙ rw (← f .0, ← f .1)) in
+      let total : length (v ++ (u ++ rest)) ≡ length v + (length u + length rest) = length-append v (u ++ rest)
+      ∙ ap (λ (k : ℕ). length v + k) (length-append u rest) in
       let sum = ap length now in
       let pow : 2 ^ level ≡ 2 ^ L + 2 ^ L = ap (λ (k : ℕ). 2 ^ k) up ∙ two-pow-succ L in
       let inside = w .inside in

@@ -57,7 +57,8 @@ rising-at : (dir : List ℕ) (n : ℕ) → length dir ≡ n + 1 → T (rising (g
 rising-at [] n l t k h = absurd (omega arith)
 rising-at (d ∷ ds) n l t k h = rw add-one (of-rising d ds t k (omega arith))
 
-at-rising : (dir : List ℕ) (n : ℕ) → length dir ≡ n + 1 → ((k : ℕ) → k < n → getD dir k 0 ≤ getD dir (k + 1) 0) → T (rising (getD dir 0 0) (drop 1 dir))
+at-rising : (dir : List ℕ) (n : ℕ) → length dir ≡ n + 1 → ((k : ℕ) → k < n → getD dir k 0 ≤ getD dir (k + 1) 0)
+    → T (rising (getD dir 0 0) (drop 1 dir))
 unfolding rising
 at-rising [] n l h = tt
 at-rising (d ∷ ds) n l h = to-rising d ds (λ k i. rw add-one at (h k (omega arith)))

@@ -60,7 +60,8 @@ module _ (n : Numbers) (x : Index) (o : Outcome) (e : o ≡ checkOutcome (scaleO
   pub run-refused-so : (L i d : ℕ) (why : Refusal) (k : ℕ) → o ≡ Refused why k → o ≡ runOutcome (scaleOf n) x L i d
   run-refused-so L i d why k r = r ∙ sym (run-unchecked (scaleOf n) x L i d why k (sym e ∙ r))
 
-  pub run-decided : (L i d : ℕ) (b : Bool) → o ≡ Accepted → b ≡ noSuchSlot (scaleOf n) L i d → refuse b NoSuchSlot 0 Accepted ≡ runOutcome (scaleOf n) x L i d
+  pub run-decided : (L i d : ℕ) (b : Bool) → o ≡ Accepted → b ≡ noSuchSlot (scaleOf n) L i d → refuse b NoSuchSlot 0 Accepted
+      ≡ runOutcome (scaleOf n) x L i d
   run-decided L i d b a t = sym (run-checked (scaleOf n) x L i d b (sym e ∙ a) t)
 
 -- ---- by the outcome o of a run

@@ -62,7 +62,8 @@ by-code-requires c κs =
     let x = index (g .directory .now) (g .originals .now) (g .replicas .now) in
     let ruler = c .before .before .ruler .given in
     let made = judged-good (g .numbers) (ruler .0 .0) (sym (c .before .before .before .before .new .ensures) ∙ ruler .1) in
-    let passes = sym (c .before .before .before .before .before .before .before .check .ensures) ∙ c .before .before .before .before .before .enum-told .given .1 in
+    let passes = sym (c .before .before .before .before .before .before .before .check .ensures)
+    ∙ c .before .before .before .before .before .enum-told .given .1 in
     rw (made .numbers) (made .good, of-T (isIndex s x) (to-isIndex s x (checked s x passes)))
 
 same-length : tie.Need-same-length
@@ -75,7 +76,8 @@ returns-3 c =
     let x = index (g .directory .now) (g .originals .now) (g .replicas .now) in
     let ruler = c .before .before .before .before .before .ruler .given in
     let made = judged-good (g .numbers) (ruler .0 .0) (sym (c .before .before .before .before .before .before .before .new .ensures) ∙ ruler .1) in
-    let passes = sym (c .before .before .before .before .before .before .before .before .before .before .check .ensures) ∙ c .before .before .before .before .before .before .before .before .enum-told .given .1 in
+    let passes = sym (c .before .before .before .before .before .before .before .before .before .before .check .ensures)
+    ∙ c .before .before .before .before .before .before .before .before .enum-told .given .1 in
     rw (made .numbers) at (c .before .before .by-code .ensures) ∙ past-check s x (g .code) (g .window) _ passes
 
 pub ask-spec : {M : Type 1} → statement M

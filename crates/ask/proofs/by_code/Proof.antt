@@ -44,8 +44,10 @@ returns-2 c =
     let g = c .before .before .before .before .before .before .before .before .before .before .before .before .before .before .args in
     let x = index (g .directory .now) (g .originals .now) (g .replicas .now) in
     let s = scale (g .ruler) in
-    let e = sym (c .before .before .before .before .before .before .before .before .before .relationship-of .ensures) ∙ c .before .before .before .before .before .before .before .relationship .given .1 in
-    let off : offRuler s (g .window .start) (g .window .end) ≡ true = rw (← c .before .before .before .has .ensures, ← c .before .before .has2 .ensures) (c .before .if1 .taken) in
+    let e = sym (c .before .before .before .before .before .before .before .before .before .relationship-of .ensures)
+    ∙ c .before .before .before .before .before .before .before .relationship .given .1 in
+    let off : offRuler s (g .window .start) (g .window .end) ≡ true = rw
+    (← c .before .before .before .has .ensures, ← c .before .before .has2 .ensures) (c .before .if1 .taken) in
     ends-off s (tableOf s x) (g .code) (g .window) _ (c .refused2 .ensures .1) e off (c .refused2 .ensures .0)
 
 before-requires : tie.Need-before-requires
@@ -60,8 +62,11 @@ returns-3 c =
     let g = c .before .before .before .before .before .before .before .before .before .before .before .before .before .before .before .before .args in
     let x = index (g .directory .now) (g .originals .now) (g .replicas .now) in
     let s = scale (g .ruler) in
-    let e = sym (c .before .before .before .before .before .before .before .before .before .before .before .relationship-of .ensures) ∙ c .before .before .before .before .before .before .before .before .before .relationship .given .1 in
-    let off : offRuler s (g .window .start) (g .window .end) ≡ false = rw (← c .before .before .before .before .before .has .ensures, ← c .before .before .before .before .has2 .ensures) (c .before .before .before .if1 .left) in
+    let e = sym (c .before .before .before .before .before .before .before .before .before .before .before .relationship-of .ensures)
+    ∙ c .before .before .before .before .before .before .before .before .before .relationship .given .1 in
+    let off : offRuler s (g .window .start) (g .window .end) ≡ false = rw
+    (← c .before .before .before .before .before .has .ensures, ← c .before .before .before .before .has2 .ensures)
+    (c .before .before .before .if1 .left) in
     let back : backward (g .window .start) (g .window .end) ≡ true = sym (c .before .before .before2 .ensures) ∙ c .before .if2 .taken in
     ends-backward s (tableOf s x) (g .code) (g .window) _ (c .refused3 .ensures .1) e off back (c .refused3 .ensures .0)
 
@@ -71,9 +76,16 @@ listed-requires c κs =
     let g = c .before .before .before .before .before .before .before .before .before .before .before .before .before .before .before .before .args in
     let x = index (g .directory .now) (g .originals .now) (g .replicas .now) in
     let s = scale (g .ruler) in
-    let off : offRuler s (g .window .start) (g .window .end) ≡ false = rw (← c .before .before .before .before .before .has .ensures, ← c .before .before .before .before .has2 .ensures) (c .before .before .before .if1 .left) in
-    let back : backward (g .window .start) (g .window .end) ≡ false = sym (c .before .before .before2 .ensures) ∙ c .before .if2 .left in
-    (c .before .before .before .before .before .before .before .before .before .before .before .before .before .before .before .before .pre .0, (c .before .before .before .before .before .before .before .before .before .before .before .before .before .before .before .before .pre .1, on-ruler s (g .window) off back))
+    let off : offRuler s (g .window .start) (g .window .end) ≡ false = rw
+    (← c .before .before .before .before .before .has .ensures, ← c .before .before .before .before .has2 .ensures)
+    (c .before .before .before .if1 .left) in
+    let back : backward (g .window .start) (g .window .end) ≡ false = sym (c .before .before .before2 .ensures) ∙ c .before .if2 .left in (
+      c .before .before .before .before .before .before .before .before .before .before .before .before .before .before .before .before .pre .0,
+      (
+        c .before .before .before .before .before .before .before .before .before .before .before .before .before .before .before .before .pre .1,
+        on-ruler s (g .window) off back,
+      ),
+    )
 
 same-length : tie.Need-same-length
 same-length c = search needs
@@ -81,12 +93,18 @@ same-length c = search needs
 returns-4 : tie.Need-returns-4
 unfolding offRuler backward
 returns-4 c =
-    let g = c .before .before .before .before .before .before .before .before .before .before .before .before .before .before .before .before .before .before .before .args in
+    let g = c .before .before .before .before .before .before .before .before .before .before .before .before .before .before .before .before .before .before .before .args
+    in
     let x = index (g .directory .now) (g .originals .now) (g .replicas .now) in
     let s = scale (g .ruler) in
-    let e = sym (c .before .before .before .before .before .before .before .before .before .before .before .before .before .before .relationship-of .ensures) ∙ c .before .before .before .before .before .before .before .before .before .before .before .before .relationship .given .1 in
-    let off : offRuler s (g .window .start) (g .window .end) ≡ false = rw (← c .before .before .before .before .before .before .before .before .has .ensures, ← c .before .before .before .before .before .before .before .has2 .ensures) (c .before .before .before .before .before .before .if1 .left) in
-    let back : backward (g .window .start) (g .window .end) ≡ false = sym (c .before .before .before .before .before .before2 .ensures) ∙ c .before .before .before .before .if2 .left in
+    let e = sym (c .before .before .before .before .before .before .before .before .before .before .before .before .before .before .relationship-of .ensures)
+    ∙ c .before .before .before .before .before .before .before .before .before .before .before .before .relationship .given .1 in
+    let off : offRuler s (g .window .start) (g .window .end) ≡ false = rw (
+      ← c .before .before .before .before .before .before .before .before .has .ensures,
+      ← c .before .before .before .before .before .before .before .has2 .ensures,
+    ) (c .before .before .before .before .before .before .if1 .left) in
+    let back : backward (g .window .start) (g .window .end) ≡ false = sym (c .before .before .before .before .before .before2 .ensures)
+    ∙ c .before .before .before .before .if2 .left in
     c .before .before .listed .ensures ∙ sym (past-chain s (tableOf s x) (g .code) (g .window) _ e off back)
 
 pub by-code-spec : {M : Type 1} → statement M

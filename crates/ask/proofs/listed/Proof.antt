@@ -49,11 +49,15 @@ room-for-requires c κs =
     let s = c .before .before .before .before .before .before .before .before .before in
     let g = s .args in
     let x = index (g .directory .now) (g .originals .now) (g .replicas .now) in
-    let same = same-listing (g .ruler) (s .pre .0) x (s .pre .1 .0) (g .question) (s .pre .1 .1) (c .before .before .before .bounds-of .ensures) (c .before .before .plan-for .ensures) in
-    let trips = c .trips-of .ensures ∙ ap (λ (m : ℕ). getD (g .directory .now) (2 * partitions m) 0) (c .before .bottom .ensures) ∙ trips-word (g .ruler) (s .pre .0) x (s .pre .1 .0) (g .question) (s .pre .1 .1) in
+    let same = same-listing (g .ruler) (s .pre .0) x (s .pre .1 .0) (g .question) (s .pre .1 .1) (c .before .before .before .bounds-of .ensures)
+    (c .before .before .plan-for .ensures) in
+    let trips = c .trips-of .ensures ∙ ap (λ (m : ℕ). getD (g .directory .now) (2 * partitions m) 0) (c .before .bottom .ensures)
+    ∙ trips-word (g .ruler) (s .pre .0) x (s .pre .1 .0) (g .question) (s .pre .1 .1) in
     let few = listing-few (g .ruler) (s .pre .0) x (s .pre .1 .0) (g .question) (s .pre .1 .1) in
-    let most = trips-few (g .ruler) (s .pre .0) x (s .pre .1 .0) (g .question) (s .pre .1 .1) in
-    (same-there (g .ruler) (s .pre .0) x (s .pre .1 .0) (g .question) (s .pre .1 .1) (c .before .before .plan-for .ensures), (omega (arith, ap length same), omega arith))
+    let most = trips-few (g .ruler) (s .pre .0) x (s .pre .1 .0) (g .question) (s .pre .1 .1) in (
+      same-there (g .ruler) (s .pre .0) x (s .pre .1 .0) (g .question) (s .pre .1 .1) (c .before .before .plan-for .ensures),
+      (omega (arith, ap length same), omega arith),
+    )
 
 enum-known-room : tie.Need-enum-known-room
 enum-known-room c = search needs
@@ -67,7 +71,9 @@ returns c =
     let s = c .before .before .before .before .before .before .before .before .before .before .before .before .before .before in
     let g = s .args in
     let x = index (g .directory .now) (g .originals .now) (g .replicas .now) in
-    let same = same-listing (g .ruler) (s .pre .0) x (s .pre .1 .0) (g .question) (s .pre .1 .1) (c .before .before .before .before .before .before .before .before .bounds-of .ensures) (c .before .before .before .before .before .before .before .plan-for .ensures) in
+    let same = same-listing (g .ruler) (s .pre .0) x (s .pre .1 .0) (g .question) (s .pre .1 .1)
+    (c .before .before .before .before .before .before .before .before .bounds-of .ensures)
+    (c .before .before .before .before .before .before .before .plan-for .ensures) in
     let told = c .before .before .room .given .1 in
     let long = ap length same ∙ listing-length (g .ruler) (s .pre .0) x (s .pre .1 .0) (g .question) (s .pre .1 .1) in
     let room = ap (λ (n : ℕ). roomTest n (length (g .answers .now))) (sym long) ∙ sym (c .before .before .before .before .room-for .ensures) ∙ told in
@@ -81,10 +87,15 @@ list-levels-requires c κs =
     let s = c .before .before .before .before .before .before .before .before .before .before .before .before .before in
     let g = s .args in
     let x = index (g .directory .now) (g .originals .now) (g .replicas .now) in
-    let same = same-listing (g .ruler) (s .pre .0) x (s .pre .1 .0) (g .question) (s .pre .1 .1) (c .before .before .before .before .before .before .before .bounds-of .ensures) (c .before .before .before .before .before .before .plan-for .ensures) in
+    let same = same-listing (g .ruler) (s .pre .0) x (s .pre .1 .0) (g .question) (s .pre .1 .1)
+    (c .before .before .before .before .before .before .before .bounds-of .ensures)
+    (c .before .before .before .before .before .before .plan-for .ensures) in
     let told = c .before .enum-told .given .1 in
-    let room = c .before .before .before .room-for .ensures in
-    (same-there (g .ruler) (s .pre .0) x (s .pre .1 .0) (g .question) (s .pre .1 .1) (c .before .before .before .before .before .before .plan-for .ensures), of-room _ _ (sym room ∙ told))
+    let room = c .before .before .before .room-for .ensures in (
+      same-there (g .ruler) (s .pre .0) x (s .pre .1 .0) (g .question) (s .pre .1 .1)
+          (c .before .before .before .before .before .before .plan-for .ensures),
+      of-room _ _ (sym room ∙ told),
+    )
 
 sub-sort-ids : tie.Need-sub-sort-ids
 sub-sort-ids c = search needs
@@ -95,7 +106,8 @@ part-sort-ids-start c = search needs
 part-sort-ids-end : tie.Need-part-sort-ids-end
 part-sort-ids-end c =
     let l = c .before .before .list-levels .ensures in
-    let fits = of-room _ _ (sym (c .before .before .before .before .before .before .room-for .ensures) ∙ c .before .before .before .before .enum-told .given .1) in
+    let fits = of-room _ _ (sym (c .before .before .before .before .before .before .room-for .ensures)
+    ∙ c .before .before .before .before .enum-told .given .1) in
     let long = listed-length l fits in
     let n = l .counted in
     search needs
@@ -105,10 +117,13 @@ sort-ids-requires c κs = search needs
 
 cast-t16 : tie.Need-cast-t16
 cast-t16 c =
-    let s = c .before .before .before .before .before .before .before .before .before .before .before .before .before .before .before .before .before .before .before .before in
+    let s = c .before .before .before .before .before .before .before .before .before .before .before .before .before .before .before .before .before .before .before .before
+    in
     let g = s .args in
     let x = index (g .directory .now) (g .originals .now) (g .replicas .now) in
-    let same = same-listing (g .ruler) (s .pre .0) x (s .pre .1 .0) (g .question) (s .pre .1 .1) (c .before .before .before .before .before .before .before .before .before .before .before .before .before .before .bounds-of .ensures) (c .before .before .before .before .before .before .before .before .before .before .before .before .before .plan-for .ensures) in
+    let same = same-listing (g .ruler) (s .pre .0) x (s .pre .1 .0) (g .question) (s .pre .1 .1)
+    (c .before .before .before .before .before .before .before .before .before .before .before .before .before .before .bounds-of .ensures)
+    (c .before .before .before .before .before .before .before .before .before .before .before .before .before .plan-for .ensures) in
     let few = listing-few (g .ruler) (s .pre .0) x (s .pre .1 .0) (g .question) (s .pre .1 .1) in
     let most = trips-few (g .ruler) (s .pre .0) x (s .pre .1 .0) (g .question) (s .pre .1 .1) in
     omega (arith, ap length same, c .before .before .before .before .before .before .list-levels .ensures .counted)
@@ -118,15 +133,20 @@ same-length c = search needs
 
 returns-2 : tie.Need-returns-2
 returns-2 c =
-    let s = c .before .before .before .before .before .before .before .before .before .before .before .before .before .before .before .before .before .before .before .before in
+    let s = c .before .before .before .before .before .before .before .before .before .before .before .before .before .before .before .before .before .before .before .before
+    in
     let g = s .args in
     let x = index (g .directory .now) (g .originals .now) (g .replicas .now) in
-    let same = same-listing (g .ruler) (s .pre .0) x (s .pre .1 .0) (g .question) (s .pre .1 .1) (c .before .before .before .before .before .before .before .before .before .before .before .before .before .before .bounds-of .ensures) (c .before .before .before .before .before .before .before .before .before .before .before .before .before .plan-for .ensures) in
+    let same = same-listing (g .ruler) (s .pre .0) x (s .pre .1 .0) (g .question) (s .pre .1 .1)
+    (c .before .before .before .before .before .before .before .before .before .before .before .before .before .before .bounds-of .ensures)
+    (c .before .before .before .before .before .before .before .before .before .before .before .before .before .plan-for .ensures) in
     let told = c .before .before .before .before .before .before .before .before .enum-told .given .1 in
     let room = c .before .before .before .before .before .before .before .before .before .before .room-for .ensures in
     let long = ap length same ∙ listing-length (g .ruler) (s .pre .0) x (s .pre .1 .0) (g .question) (s .pre .1 .1) in
     let l = c .before .before .before .before .before .before .list-levels .ensures in
-    let over = sorted-over _ {k = c .before .before .before .before .before .before .list-levels .result - 0} l (omega arith) (ap (λ (ts : List Trip). ascending (ids ts)) same ∙ listing-answer (g .ruler) (s .pre .0) x (s .pre .1 .0) (g .question) (s .pre .1 .1)) (c .before .before .sort-ids .ensures) in
+    let over = sorted-over _ {k = c .before .before .before .before .before .before .list-levels .result - 0} l (omega arith)
+    (ap (λ (ts : List Trip). ascending (ids ts)) same ∙ listing-answer (g .ruler) (s .pre .0) x (s .pre .1 .0) (g .question) (s .pre .1 .1))
+    (c .before .before .sort-ids .ensures) in
     ends-accepted _ _ (ap (λ (n : ℕ). roomTest n (length (g .answers .now))) (sym long) ∙ sym room ∙ told) (l .counted ∙ long) over
 
 pub listed-spec : {M : Type 1} → statement M

@@ -50,11 +50,16 @@ same-length-6 c = search needs
 
 returns-2 : tie.Need-returns-2
 returns-2 c =
-    let g = c .before .before .before .before .before .before .before .before .before .before .before .before .before .before .before .before .before .before .before in
+    let g = c .before .before .before .before .before .before .before .before .before .before .before .before .before .before .before .before .before .before .before
+    in
     let s = scale (g .args .ruler) in
     let x = index (g .args .directory .now) (g .args .originals .now) (g .args .replicas .now) in
-    let taken = is-accepted _ (sym (c .before .before .before .before .before .before .before .before .before .before .before .is-accepted .ensures) ∙ not-false _ (c .before .before .before .before .before .before .before .before .before .before .if1 .left)) in
-    add-accepted s x _ (g .args .t) (sym (c .before .before .before .before .before .before .before .before .before .before .before .before .add-outcome .ensures) ∙ taken) (c .before .before .before .before .before .before .put-in .ensures)
+    let taken = is-accepted _
+    (sym (c .before .before .before .before .before .before .before .before .before .before .before .is-accepted .ensures)
+    ∙ not-false _ (c .before .before .before .before .before .before .before .before .before .before .if1 .left)) in
+    add-accepted s x _ (g .args .t)
+    (sym (c .before .before .before .before .before .before .before .before .before .before .before .before .add-outcome .ensures) ∙ taken)
+    (c .before .before .before .before .before .before .put-in .ensures)
 
 pub add-checked-spec : {M : Type 1} → statement M
 add-checked-spec =

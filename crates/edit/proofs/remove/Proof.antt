@@ -58,14 +58,19 @@ returns-2 : tie.Need-returns-2
 returns-2 c =
     let a = c .before .before .before .before .before .before .before .before .before .before .before .before .before .args in
     let x = index (a .directory .now) (a .originals .now) (a .replicas .now) in
-    not-out (a .numbers) x (c .before .before .before .before .before .before .check .ensures) (c .before .before .before .before .before .is-accepted .ensures) (c .before .before .before .before .if1 .left) (c .before .before .before .new .ensures) (c .before .enum-told .given .1)
+    not-out (a .numbers) x (c .before .before .before .before .before .before .check .ensures)
+    (c .before .before .before .before .before .is-accepted .ensures) (c .before .before .before .before .if1 .left)
+    (c .before .before .before .new .ensures) (c .before .enum-told .given .1)
 
 remove-checked-requires : tie.Need-remove-checked-requires
 remove-checked-requires c κs =
     let a = c .before .before .before .before .before .before .before .before .before .before .before .before .before .before .before .before .args in
     let x = index (a .directory .now) (a .originals .now) (a .replicas .now) in
     let ruler = c .before .before .before .before .ruler .given in
-    opening (a .numbers) x (c .before .before .before .before .before .before .before .before .before .check .ensures) (c .before .before .before .before .before .before .before .before .is-accepted .ensures) (c .before .before .before .before .before .before .before .if1 .left) (ruler .0 .0) (c .before .before .before .before .before .before .new .ensures) (ruler .1)
+    opening (a .numbers) x (c .before .before .before .before .before .before .before .before .before .check .ensures)
+    (c .before .before .before .before .before .before .before .before .is-accepted .ensures)
+    (c .before .before .before .before .before .before .before .if1 .left) (ruler .0 .0)
+    (c .before .before .before .before .before .before .new .ensures) (ruler .1)
 
 same-length-7 : tie.Need-same-length-7
 same-length-7 c = search needs
@@ -79,7 +84,8 @@ same-length-9 c = search needs
 returns-3 : tie.Need-returns-3
 returns-3 c =
     let ruler = c .before .before .before .before .before .before .before .before .before .before .before .ruler .given in
-    let made = judged-good _ (ruler .0 .0) (sym (c .before .before .before .before .before .before .before .before .before .before .before .before .before .new .ensures) ∙ ruler .1) in
+    let made = judged-good _ (ruler .0 .0)
+    (sym (c .before .before .before .before .before .before .before .before .before .before .before .before .before .new .ensures) ∙ ruler .1) in
     rw (made .numbers) at (c .before .before .before .before .before .before .remove-checked .ensures)
 
 pub remove-spec : {M : Type 1} → statement M

@@ -98,14 +98,18 @@ same-length-4 c = search needs
 returns-2 : tie.Need-returns-2
 unfolding entryWords
 returns-2 c =
-    let g = c .before .before .before .before .before .before .before .before .before .before .before .before .before .before .before .before .before .before .before .before in
+    let g = c .before .before .before .before .before .before .before .before .before .before .before .before .before .before .before .before .before .before .before .before
+    in
     let s = scale (g .args .ruler) in
     let x = index (g .args .directory .now) (g .args .originals .now) (g .args .replicas .now) in
     let w = in-index g in
     let read = ap (λ (k : ℕ). rows (take (entryWords * k - 0) (x .originals))) (w .trips) ∙ w .listed in
     let place = c .before .before .before .before .before .before .before .before .before .before .before .before .before .find-id .ensures
     ∙ ap (placeOfId (g .args .id)) read in
-    let f = found s x (g .args .id) _ (g .pre .1) w place (c .before .before .before .before .before .before .before .before .before .before .trip-at .result) (omega (arith, w .trips, c .before .before .before .before .before .before .before .before .before .before .before .before .if1 .left)) (c .before .before .before .before .before .before .before .before .before .before .trip-at .ensures) in
+    let f = found s x (g .args .id) _ (g .pre .1) w place
+    (c .before .before .before .before .before .before .before .before .before .before .trip-at .result)
+    (omega (arith, w .trips, c .before .before .before .before .before .before .before .before .before .before .before .before .if1 .left))
+    (c .before .before .before .before .before .before .before .before .before .before .trip-at .ensures) in
     remove-accepted s x _ (g .args .id) (f .accepted) (c .before .before .before .before .before .before .take-out .ensures
     ∙ ap (λ (k : ℕ). layout s (without k (tableOf s x)) (lengthsOf x)) (f .same))
 

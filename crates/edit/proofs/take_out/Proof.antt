@@ -52,10 +52,12 @@ same-length-3 c = search needs
 
 returns : tie.Need-returns
 returns c =
-    let s = c .before .before .before .before .before .before .before .before .before .before .before .before .before .before .before .before .before in
+    let s = c .before .before .before .before .before .before .before .before .before .before .before .before .before .before .before .before .before
+    in
     let x = index (s .args .directory .now) (s .args .originals .now) (s .args .replicas .now) in
     let e = removing (s .args .ruler) (s .pre .0) x (s .args .t) (s .pre .1 .0) (s .pre .1 .1) in
-    both-back _ _ _ e (c .before .before .before .before .before .before .before .before .before .before .before .remove-half .ensures x) (c .before .before .before .before .remove-half2 .ensures x)
+    both-back _ _ _ e (c .before .before .before .before .before .before .before .before .before .before .before .remove-half .ensures x)
+    (c .before .before .before .before .remove-half2 .ensures x)
 
 pub take-out-spec : {M : Type 1} → statement M
 take-out-spec =

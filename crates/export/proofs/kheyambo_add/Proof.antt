@@ -28,7 +28,12 @@ same-length-3 c = search needs
 
 returns : tie.Need-returns
 unfolding addSaid
-returns c = left-so (c .in-numbers .ensures) (rw (c .before .before .before .before .before .before .before .before .before .before .before .before .at .ensures, c .before .before .before .before .before .before .before .before .before .before .before .at2 .ensures) at (c .before .before .before .before .before .before .before .add .ensures))
+returns c = left-so (c .in-numbers .ensures)
+    (rw (
+      c .before .before .before .before .before .before .before .before .before .before .before .before .at .ensures,
+      c .before .before .before .before .before .before .before .before .before .before .before .at2 .ensures,
+    ) at
+    (c .before .before .before .before .before .before .before .add .ensures))
 
 pub kheyambo-add-spec : {M : Type 1} → statement M
 kheyambo-add-spec =

@@ -25,7 +25,9 @@ same-length c = search needs
 
 returns : tie.Need-returns
 unfolding askSaid
-returns c = told-so (c .before .number-of .ensures) (c .detail-of .ensures) (rw (c .before .before .before .before .before .before .before .at .ensures, c .before .before .before .before .before .before .at2 .ensures) at (c .before .before .before .before .ask .ensures))
+returns c = told-so (c .before .number-of .ensures) (c .detail-of .ensures)
+    (rw (c .before .before .before .before .before .before .before .at .ensures, c .before .before .before .before .before .before .at2 .ensures) at
+    (c .before .before .before .before .ask .ensures))
 
 pub kheyambo-ask-spec : {M : Type 1} → statement M
 kheyambo-ask-spec =

@@ -5,11 +5,13 @@ use Rattle.probe.proofs.take_all.Statement.{statement}
 use Rattle.probe.proofs.take_all.Tie as tie
 
 abbrev Inv-loop : tie.InvT-loop
-Inv-loop line₀ table₀ directory₀ originals₀ replicas₀ answers₀ out₀ standing₀ turns₀ line table directory originals replicas answers out standing turns =
+Inv-loop line₀ table₀ directory₀ originals₀ replicas₀ answers₀ out₀ standing₀ turns₀ line table directory originals replicas answers out standing
+    turns =
     standing .held ≤ 1100000
 
 abbrev μ-loop : tie.MeasureT-loop
-μ-loop line₀ table₀ directory₀ originals₀ replicas₀ answers₀ out₀ standing₀ turns₀ line table directory originals replicas answers out standing turns = turns
+μ-loop line₀ table₀ directory₀ originals₀ replicas₀ answers₀ out₀ standing₀ turns₀ line table directory originals replicas answers out standing
+    turns = turns
 
 loop-holds : tie.Need-loop-holds Inv-loop μ-loop
 loop-holds c = search needs

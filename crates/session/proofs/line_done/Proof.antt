@@ -23,7 +23,11 @@ write-front-requires : tie.Need-write-front-requires
 write-front-requires c κs = search needs
 
 returns : tie.Need-returns
-returns c = (done-keeps _ _ (c .before .before .before .before .turn .ensures) (c .before .before .before .before .before .before .before .before .before .before .before .before .pre .0), omega arith)
+returns c = (
+  done-keeps _ _ (c .before .before .before .before .turn .ensures)
+      (c .before .before .before .before .before .before .before .before .before .before .before .before .pre .0),
+  omega arith,
+)
 
 pub line-done-spec : {M : Type 1} → statement M
 line-done-spec =

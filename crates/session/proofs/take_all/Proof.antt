@@ -7,7 +7,8 @@ use Rattle.session.proofs.take_all.Statement.{statement}
 use Rattle.session.proofs.take_all.Tie as tie
 
 abbrev Inv-loop : tie.InvT-loop
-Inv-loop line₀ directory₀ originals₀ replicas₀ answers₀ reply₀ standing₀ turns₀ line directory originals replicas answers reply standing turns = (standing .desk .numbers .m ≤ deepestHere) × (standing .held ≤ 64)
+Inv-loop line₀ directory₀ originals₀ replicas₀ answers₀ reply₀ standing₀ turns₀ line directory originals replicas answers reply standing
+    turns = (standing .desk .numbers .m ≤ deepestHere) × (standing .held ≤ 64)
 
 abbrev μ-loop : tie.MeasureT-loop
 μ-loop line₀ directory₀ originals₀ replicas₀ answers₀ reply₀ standing₀ turns₀ line directory originals replicas answers reply standing turns = turns

@@ -154,11 +154,21 @@ returns-7 c = rw (c .before .enum-told7 .given .1, c .same8 .ensures)
 
 returns-8 : tie.Need-returns-8
 unfolding related
-returns-8 c = rw (c .before .before .before .enum-told8 .given .1, c .before8 .ensures, c .before .before7 .ensures, c .before .before .before6 .ensures)
+returns-8 c = rw (
+  c .before .before .before .enum-told8 .given .1,
+  c .before8 .ensures,
+  c .before .before7 .ensures,
+  c .before .before .before6 .ensures,
+)
 
 returns-9 : tie.Need-returns-9
 unfolding related
-returns-9 c = rw (c .before .before .before .enum-told9 .given .1, c .before11 .ensures, c .before .before10 .ensures, c .before .before .before9 .ensures)
+returns-9 c = rw (
+  c .before .before .before .enum-told9 .given .1,
+  c .before11 .ensures,
+  c .before .before10 .ensures,
+  c .before .before .before9 .ensures,
+)
 
 returns-10 : tie.Need-returns-10
 unfolding related

@@ -18,7 +18,10 @@ power-requires c κs = omega (arith, bounds (c .before .before .args .numbers) (
 
 returns-2 : tie.Need-returns-2
 unfolding noSuchSlot scaleOf partitionsAt
-returns-2 c = rw (le-ltb (c .before .before .before .args .numbers .m) (c .before .before .before .args .level) (c .before .if1 .left), c .power .ensures)
+returns-2 c = rw (
+  le-ltb (c .before .before .before .args .numbers .m) (c .before .before .before .args .level) (c .before .if1 .left),
+  c .power .ensures,
+)
 
 pub no-such-slot-spec : {M : Type 1} → statement M
 no-such-slot-spec = tie.close (tie.spec returns power-requires returns-2)

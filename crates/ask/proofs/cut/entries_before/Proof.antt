@@ -54,8 +54,10 @@ loop-again c =
     let mid = k .lo + (k .hi - k .lo) / 2 in
     let passes : earlierThan (g .args .ends) (g .args .limit) (tripAt (g .args .part .now) mid) ≡ true =
     rw (← c .before .before .before .trip-at .ensures, ← c .before .before .time-of .ensures, ← c .before .before2 .ensures) (c .if1 .taken)
-    in
-    (search-up (g .args .ends) (g .args .limit) (g .args .part .now) (g .pre) (k .lo) (k .hi) mid (k .inv .0) (omega arith) (omega arith) passes, omega arith)
+    in (
+      search-up (g .args .ends) (g .args .limit) (g .args .part .now) (g .pre) (k .lo) (k .hi) mid (k .inv .0) (omega arith) (omega arith) passes,
+      omega arith,
+    )
 
 loop-less-2 : tie.Need-loop-less-2 Inv-loop μ-loop
 loop-less-2 c = omega arith
@@ -68,8 +70,10 @@ loop-again-2 c =
     let mid = k .lo + (k .hi - k .lo) / 2 in
     let fails : earlierThan (g .args .ends) (g .args .limit) (tripAt (g .args .part .now) mid) ≡ false =
     rw (← c .before .before .before .trip-at .ensures, ← c .before .before .time-of .ensures, ← c .before .before2 .ensures) (c .if1 .left)
-    in
-    (search-down (g .args .ends) (g .args .limit) (g .args .part .now) (g .pre) (k .lo) (k .hi) mid (k .inv .0) (omega arith) (omega arith) fails, omega arith)
+    in (
+      search-down (g .args .ends) (g .args .limit) (g .args .part .now) (g .pre) (k .lo) (k .hi) mid (k .inv .0) (omega arith) (omega arith) fails,
+      omega arith,
+    )
 
 returns : tie.Need-returns Inv-loop μ-loop
 returns c =

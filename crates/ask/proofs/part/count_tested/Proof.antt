@@ -31,7 +31,11 @@ hold-requires c κs = search needs
 
 add-count : tie.Need-add-count Inv-loop μ-loop
 unfolding entryWords
-add-count c = omega (arith, kept-few (inside (c .before .before .before .before .before .before .args .bounds)) (tripAt (c .before .before .before .before .before .before .args .part .now)) (c .before .before .before .before .loop .i))
+add-count c = omega (
+  arith,
+  kept-few (inside (c .before .before .before .before .before .before .args .bounds))
+      (tripAt (c .before .before .before .before .before .before .args .part .now)) (c .before .before .before .before .loop .i),
+)
 
 add-i : tie.Need-add-i Inv-loop μ-loop
 add-i c = omega arith

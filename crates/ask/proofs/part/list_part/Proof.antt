@@ -9,7 +9,8 @@ use Rattle.ask.proofs.part.list_part.Tie as tie
 
 copy-ids-requires : tie.Need-copy-ids-requires
 unfolding keepUnless
-copy-ids-requires c κs = let s = c .before .before .before .before in omega (arith, rw (c .before .if1 .taken) at (s .pre), length-rows (s .args .part .now))
+copy-ids-requires c κs = let s = c .before .before .before .before in
+    omega (arith, rw (c .before .if1 .taken) at (s .pre), length-rows (s .args .part .now))
 
 same-length : tie.Need-same-length
 same-length c = search needs
@@ -18,7 +19,8 @@ returns : tie.Need-returns
 unfolding keepUnless
 returns c =
     let e = c .before .before .copy-ids .ensures in
-    rw (c .before .before .before .before .if1 .taken) (record { counted = e .0 ∙ sym (length-rows (c .before .before .before .before .before .before .before .args .part .now)); written = e .1 })
+    rw (c .before .before .before .before .if1 .taken) (record
+    { counted = e .0 ∙ sym (length-rows (c .before .before .before .before .before .before .before .args .part .now)); written = e .1 })
 
 list-tested-requires : tie.Need-list-tested-requires
 unfolding keepUnless

@@ -79,7 +79,8 @@ loop-again c =
     ⊎-elim
     (λ w.
     let e : test (tripAt l (q .i)) ≡ true = rw (← c .before .before .trip-at .ensures, ← c .before .hold .ensures) (w .0 .taken) in
-    let f = hit-listed test l (q .inv .2) e (omega arith) (omega arith) {v = c .before .before .trip-at .result .id} (ap (λ (t : Trip). t .id) trip) in
+    let f = hit-listed test l (q .inv .2) e (omega arith) (omega arith) {v = c .before .before .trip-at .result .id}
+    (ap (λ (t : Trip). t .id) trip) in
     (omega arith, rw (w .1) (simp length-set (q .inv .1)), rw (w .1, w .2) f))
     (λ w.
     let e : test (tripAt l (q .i)) ≡ false = rw (← c .before .before .trip-at .ensures, ← c .before .hold .ensures) (w .0 .left) in
@@ -91,7 +92,8 @@ same-length c = c .before .loop .inv .1
 
 returns : tie.Need-returns Inv-loop μ-loop
 unfolding entryWords
-returns c = let q = c .before .loop in rw (← found-all (inside (c .before .before .before .before .args .bounds)) (c .before .before .before .before .args .part .now) (q .i) (omega arith)) (q .inv .2)
+returns c = let q = c .before .loop in rw (← found-all (inside (c .before .before .before .before .args .bounds))
+    (c .before .before .before .before .args .part .now) (q .i) (omega arith)) (q .inv .2)
 
 pub list-tested-spec : {M : Type 1} → statement M
 list-tested-spec =

@@ -12,7 +12,8 @@ new-requires : tie.Need-new-requires
 new-requires c κs = search needs
 
 returns : tie.Need-returns
-returns c = let g = c .before .before .before .before .args in rw (lt-ltb (g .stretch .from) (g .stretch .to) (c .before .before .if1 .taken), c .new .ensures)
+returns c = let g = c .before .before .before .before .args in
+    rw (lt-ltb (g .stretch .from) (g .stretch .to) (c .before .before .if1 .taken), c .new .ensures)
 
 returns-2 : tie.Need-returns-2
 returns-2 c = let g = c .before .before .args in rw (le-ltb (g .stretch .from) (g .stretch .to) (c .if1 .left)) refl

@@ -22,7 +22,8 @@ aft-slot-requires : tie.Need-aft-slot-requires
 aft-slot-requires c κs = search needs
 
 count-slot-requires-2 : tie.Need-count-slot-requires-2
-count-slot-requires-2 c κs = let w = c .before .before .before .before .before .before .pre .0 in rw (c .aft-slot .ensures) (w .aft-there, w .aft-order)
+count-slot-requires-2 c κs = let w = c .before .before .before .before .before .before .pre .0 in
+    rw (c .aft-slot .ensures) (w .aft-there, w .aft-order)
 
 add-result : tie.Need-add-result
 add-result c =

@@ -11,7 +11,8 @@ new-requires : tie.Need-new-requires
 new-requires c κs = search needs
 
 returns : tie.Need-returns
-returns c = let g = c .before .before .before .before .args in rw (lt-ltb (g .stretch .from) (g .stretch .to) (c .before .before .if1 .taken), c .new .ensures)
+returns c = let g = c .before .before .before .before .args in
+    rw (lt-ltb (g .stretch .from) (g .stretch .to) (c .before .before .if1 .taken), c .new .ensures)
 
 new-requires-2 : tie.Need-new-requires-2
 new-requires-2 c κs = search needs

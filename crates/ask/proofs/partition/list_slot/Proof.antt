@@ -69,18 +69,21 @@ part-list-tested-end c = search needs
 
 list-tested-requires : tie.Need-list-tested-requires
 unfolding stretchWords entryWords
-list-tested-requires c κs = let s = c .before .before .before .before .before .before .before .before in rw (c .before .cut .ensures) (lent-room (s .args .out .now) (s .args .n) _ (s .pre .1 .1))
+list-tested-requires c κs = let s = c .before .before .before .before .before .before .before .before in
+    rw (c .before .cut .ensures) (lent-room (s .args .out .now) (s .args .n) _ (s .pre .1 .1))
 
 add-result : tie.Need-add-result
 unfolding stretchWords entryWords
-add-result c = let s = c .before .before .before .before .before .before .before .before .before .before .before in omega (arith, c .before .before .list-tested .ensures .counted, ap length (c .before .before .before .before .cut .ensures), s .pre .1 .1)
+add-result c = let s = c .before .before .before .before .before .before .before .before .before .before .before in
+    omega (arith, c .before .before .list-tested .ensures .counted, ap length (c .before .before .before .before .cut .ensures), s .pre .1 .1)
 
 same-length : tie.Need-same-length
 same-length c = search needs
 
 returns : tie.Need-returns
 unfolding stretchWords entryWords
-returns c = let g = c .before .before .before .before .before .before .before .before .before .before .before .args in lent-back (g .out .now) (g .n) (rw (c .before .before .before .before .cut .ensures) at (c .before .before .list-tested .ensures))
+returns c = let g = c .before .before .before .before .before .before .before .before .before .before .before .args in
+    lent-back (g .out .now) (g .n) (rw (c .before .before .before .before .cut .ensures) at (c .before .before .list-tested .ensures))
 
 pub list-slot-spec : {M : Type 1} → statement M
 list-slot-spec =

@@ -63,18 +63,21 @@ part-list-part-end-2 c = search needs
 
 list-part-requires : tie.Need-list-part-requires
 unfolding stretchMatches stretchWords entryWords
-list-part-requires c κs = let s = c .before .before .before .before .before .before .before in lent-room (s .args .out .now) (s .args .n) _ (s .pre .1)
+list-part-requires c κs = let s = c .before .before .before .before .before .before .before in
+    lent-room (s .args .out .now) (s .args .n) _ (s .pre .1)
 
 add-result : tie.Need-add-result
 unfolding stretchMatches stretchWords entryWords
-add-result c = let s = c .before .before .before .before .before .before .before .before .before .before in omega (arith, c .before .before .list-part .ensures .counted, s .pre .1)
+add-result c = let s = c .before .before .before .before .before .before .before .before .before .before in
+    omega (arith, c .before .before .list-part .ensures .counted, s .pre .1)
 
 same-length : tie.Need-same-length
 same-length c = search needs
 
 returns : tie.Need-returns
 unfolding stretchMatches stretchWords entryWords
-returns c = let g = c .before .before .before .before .before .before .before .before .before .before .args in lent-back (g .out .now) (g .n) (c .before .before .list-part .ensures)
+returns c = let g = c .before .before .before .before .before .before .before .before .before .before .args in
+    lent-back (g .out .now) (g .n) (c .before .before .list-part .ensures)
 
 pub list-stretch-spec : {M : Type 1} → statement M
 list-stretch-spec =

@@ -12,7 +12,8 @@ use Rattle.ask.proofs.walk.count_levels.Statement.{statement}
 use Rattle.ask.proofs.walk.count_levels.Tie as tie
 
 abbrev Inv-loop : tie.InvT-loop
-Inv-loop bounds plan directory originals replicas m count₀ up₀ count up = (up ≤ m + 1) × (m ≡ plan .low .0) × (count ≡ length (levelsMatches (inside bounds) directory originals replicas plan up))
+Inv-loop bounds plan directory originals replicas m count₀ up₀ count up = (up ≤ m + 1) × (m ≡ plan .low .0)
+    × (count ≡ length (levelsMatches (inside bounds) directory originals replicas plan up))
 
 abbrev μ-loop : tie.MeasureT-loop
 μ-loop bounds plan directory originals replicas m count₀ up₀ count up = m + 1 - up
@@ -80,7 +81,8 @@ loop-again c =
     (omega arith, q .inv .1, omega arith)
 
 returns : tie.Need-returns Inv-loop μ-loop
-returns c = let q = c .before .loop in let e : q .up ≡ c .before .before .before .before .before .before .before .args .plan .low .0 + 1 = omega arith in rw e at (q .inv .2)
+returns c = let q = c .before .loop in let e : q .up ≡ c .before .before .before .before .before .before .before .args .plan .low .0 +
+    1 = omega arith in rw e at (q .inv .2)
 
 pub count-levels-spec : {M : Type 1} → statement M
 count-levels-spec =

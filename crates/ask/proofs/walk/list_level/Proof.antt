@@ -53,14 +53,16 @@ list-partition-requires-2 c κs =
 list-partition-requires-3 : tie.Need-list-partition-requires-3
 unfolding levelMatches
 list-partition-requires-3 c κs =
-    let s = c .before .before .before .before .before .before .before .before .before .before .before .before .before .before .before .before .before in
+    let s = c .before .before .before .before .before .before .before .before .before .before .before .before .before .before .before .before .before
+    in
     let g = s .args in
     let of : List ℕ → Stretch → List Trip = stretchMatches (inside (g .bounds)) (g .directory .now) in
     let w = of (g .originals .now) (g .level .first) in
     let x = of (g .originals .now) (g .level .between) in
     let y = of (g .originals .now) (g .level .last) in
     let z = of (g .replicas .now) (g .level .replicas) in
-    let e1 = listed-more (listed-none (g .out .now)) (c .before .before .before .before .before .before .before .before .before .before .before .list-partition .ensures) in
+    let e1 = listed-more (listed-none (g .out .now))
+    (c .before .before .before .before .before .before .before .before .before .before .before .list-partition .ensures) in
     let e2 = listed-more (e1) (c .before .before .before .before .before .before .before .list-stretch .ensures) in
     let e3 = listed-more (e2) (c .before .before .before .list-partition2 .ensures) in
     (s .pre .0 .replicas, rest-room e3 z (s .pre .1))
@@ -71,14 +73,17 @@ same-length c = search needs
 returns : tie.Need-returns
 unfolding levelMatches
 returns c =
-    let s = c .before .before .before .before .before .before .before .before .before .before .before .before .before .before .before .before .before .before .before .before in
+    let s = c .before .before .before .before .before .before .before .before .before .before .before .before .before .before .before .before .before .before .before .before
+    in
     let g = s .args in
     let of : List ℕ → Stretch → List Trip = stretchMatches (inside (g .bounds)) (g .directory .now) in
     let w = of (g .originals .now) (g .level .first) in
     let x = of (g .originals .now) (g .level .between) in
     let y = of (g .originals .now) (g .level .last) in
     let z = of (g .replicas .now) (g .level .replicas) in
-    let e1 = listed-more (listed-none (g .out .now)) (c .before .before .before .before .before .before .before .before .before .before .before .before .before .before .list-partition .ensures) in
+    let e1 = listed-more (listed-none (g .out .now))
+    (c .before .before .before .before .before .before .before .before .before .before .before .before .before .before .list-partition .ensures)
+    in
     let e2 = listed-more (e1) (c .before .before .before .before .before .before .before .before .before .before .list-stretch .ensures) in
     let e3 = listed-more (e2) (c .before .before .before .before .before .before .list-partition2 .ensures) in
     let e4 = listed-more (e3) (c .before .before .list-partition3 .ensures) in

@@ -14,7 +14,8 @@ use Rattle.ask.proofs.walk.list_levels.Statement.{statement}
 use Rattle.ask.proofs.walk.list_levels.Tie as tie
 
 abbrev Inv-loop : tie.InvT-loop
-Inv-loop bounds plan directory originals replicas answers₀ m count₀ up₀ answers count up = (up ≤ m + 1) × (m ≡ plan .low .0) × (length answers ≡ length answers₀) × Listed (levelsMatches (inside bounds) directory originals replicas plan up) answers₀ answers count
+Inv-loop bounds plan directory originals replicas answers₀ m count₀ up₀ answers count up = (up ≤ m + 1) × (m ≡ plan .low .0)
+    × (length answers ≡ length answers₀) × Listed (levelsMatches (inside bounds) directory originals replicas plan up) answers₀ answers count
 
 abbrev μ-loop : tie.MeasureT-loop
 μ-loop bounds plan directory originals replicas answers₀ m count₀ up₀ answers count up = m + 1 - up
@@ -36,13 +37,19 @@ mul-list-level c =
     omega arith
 
 sub-list-level : tie.Need-sub-list-level Inv-loop μ-loop
-sub-list-level c = omega (arith, next-fits _ _ _ _ _ _ (c .before .before .loop .inv .3) (omega arith) (c .before .before .before .before .before .before .before .before .before .pre .1))
+sub-list-level c = omega (
+  arith,
+  next-fits _ _ _ _ _ _ (c .before .before .loop .inv .3) (omega arith)
+      (c .before .before .before .before .before .before .before .before .before .pre .1),
+)
 
 part-list-level-start : tie.Need-part-list-level-start Inv-loop μ-loop
-part-list-level-start c = let fits = next-fits _ _ _ _ _ _ (c .before .before .loop .inv .3) (omega arith) (c .before .before .before .before .before .before .before .before .before .pre .1) in search needs
+part-list-level-start c = let fits = next-fits _ _ _ _ _ _ (c .before .before .loop .inv .3) (omega arith)
+    (c .before .before .before .before .before .before .before .before .before .pre .1) in search needs
 
 part-list-level-end : tie.Need-part-list-level-end Inv-loop μ-loop
-part-list-level-end c = let fits = next-fits _ _ _ _ _ _ (c .before .before .loop .inv .3) (omega arith) (c .before .before .before .before .before .before .before .before .before .pre .1) in search needs
+part-list-level-end c = let fits = next-fits _ _ _ _ _ _ (c .before .before .loop .inv .3) (omega arith)
+    (c .before .before .before .before .before .before .before .before .before .pre .1) in search needs
 
 list-level-requires : tie.Need-list-level-requires Inv-loop μ-loop
 list-level-requires c κs =
@@ -76,7 +83,11 @@ add-count c =
     omega (arith, k .counted)
 
 add-up : tie.Need-add-up Inv-loop μ-loop
-add-up c = omega (arith, c .before .before .before .before .before .before .loop .inv .1, c .before .before .before .before .before .before .before .before .before .before .before .before .before .pre .0 .ranged .deep)
+add-up c = omega (
+  arith,
+  c .before .before .before .before .before .before .loop .inv .1,
+  c .before .before .before .before .before .before .before .before .before .before .before .before .before .pre .0 .ranged .deep,
+)
 
 loop-less : tie.Need-loop-less Inv-loop μ-loop
 loop-less c = omega arith
@@ -101,7 +112,8 @@ same-length : tie.Need-same-length Inv-loop μ-loop
 same-length c = c .before .loop .inv .2
 
 returns : tie.Need-returns Inv-loop μ-loop
-returns c = let q = c .before .loop in let e : q .up ≡ c .before .before .before .before .before .before .before .before .args .plan .low .0 + 1 = omega arith in rw e at (q .inv .3)
+returns c = let q = c .before .loop in let e : q .up ≡ c .before .before .before .before .before .before .before .before .args .plan .low .0 +
+    1 = omega arith in rw e at (q .inv .3)
 
 pub list-levels-spec : {M : Type 1} → statement M
 list-levels-spec =

@@ -11,7 +11,8 @@ use Rattle.dialogue.proofs.reply.put.Statement.{statement}
 use Rattle.dialogue.proofs.reply.put.Tie as tie
 
 abbrev Inv-loop : tie.InvT-loop
-Inv-loop reply₀ at bytes i₀ reply i = (i ≤ length bytes) × (length reply ≡ length reply₀) × (sets reply (at + i) (drop i bytes) ≡ sets reply₀ at bytes)
+Inv-loop reply₀ at bytes i₀ reply i = (i ≤ length bytes) × (length reply ≡ length reply₀)
+    × (sets reply (at + i) (drop i bytes) ≡ sets reply₀ at bytes)
 
 abbrev μ-loop : tie.MeasureT-loop
 μ-loop reply₀ at bytes i₀ reply i = length bytes - i
@@ -38,7 +39,8 @@ loop-again : tie.Need-loop-again Inv-loop μ-loop
 loop-again c = (
   omega arith,
   simp length-set (c .before .before .loop .inv .1),
-  sets-turn (c .before .before .loop .reply) (c .before .before .before .args .bytes .now) (c .before .before .before .args .at) (c .before .before .loop .i) 0 (omega arith) ∙ c .before .before .loop .inv .2,
+  sets-turn (c .before .before .loop .reply) (c .before .before .before .args .bytes .now) (c .before .before .before .args .at)
+      (c .before .before .loop .i) 0 (omega arith) ∙ c .before .before .loop .inv .2,
 )
 
 add-result : tie.Need-add-result Inv-loop μ-loop

@@ -29,7 +29,8 @@ same-length-2 c = search needs
 
 returns-2 : tie.Need-returns-2
 unfolding answerBytes
-returns-2 c = let given = c .before .before .before .before .enum-told2 .given in rw (given .1) (rw (given .1) at (c .before .before .put-outcome .ensures))
+returns-2 c = let given = c .before .before .before .before .enum-told2 .given in
+    rw (given .1) (rw (given .1) at (c .before .before .put-outcome .ensures))
 
 pub put-answer-spec : {M : Type 1} → statement M
 put-answer-spec =

@@ -38,7 +38,9 @@ loop-less : tie.Need-loop-less Inv-loop μ-loop
 loop-less c = omega arith
 
 loop-again : tie.Need-loop-again Inv-loop μ-loop
-loop-again c = putting-turn (c .before .before .before .before .before .before .loop .inv) (omega arith) (omega (arith, c .before .before .before .shared-slice-known2 .given (c .before .before .before .before .before .before .loop .i))) (c .before .before .put-number .ensures)
+loop-again c = putting-turn (c .before .before .before .before .before .before .loop .inv) (omega arith)
+    (omega (arith, c .before .before .before .shared-slice-known2 .given (c .before .before .before .before .before .before .loop .i)))
+    (c .before .before .put-number .ensures)
 
 same-length : tie.Need-same-length Inv-loop μ-loop
 same-length c = c .before .loop .inv .long

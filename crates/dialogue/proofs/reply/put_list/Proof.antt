@@ -23,7 +23,8 @@ put-ids-requires : tie.Need-put-ids-requires
 put-ids-requires c κs =
     let n = c .before .before .before .put-number .ensures in
     let few = ten-digits (length (c .before .before .before .before .before .before .before .args .ids .now)) (omega arith) in
-    let long : length (c .before .before .before .put-number .last .0) ≡ length (c .before .before .before .before .before .before .before .args .reply .now) = ap length (n .1) ∙ simp length-sets in
+    let long : length (c .before .before .before .put-number .last .0)
+    ≡ length (c .before .before .before .before .before .before .before .args .reply .now) = ap length (n .1) ∙ simp length-sets in
     omega (arith, n .0)
 
 slice-aggregate-put : tie.Need-slice-aggregate-put
@@ -33,8 +34,11 @@ put-requires : tie.Need-put-requires
 put-requires c κs =
     let n = c .before .before .before .before .before .before .before .before .put-number .ensures in
     let l = c .before .before .before .before .put-ids .ensures in
-    let few = ten-digits (length (c .before .before .before .before .before .before .before .before .before .before .before .before .args .ids .now)) (omega arith) in
-    let long : length (c .before .before .before .before .put-ids .last .0) ≡ length (c .before .before .before .before .before .before .before .before .before .before .before .before .args .reply .now) = ap length (l .1 .1) ∙ simp length-sets (ap length (n .1) ∙ simp length-sets) in
+    let few = ten-digits
+    (length (c .before .before .before .before .before .before .before .before .before .before .before .before .args .ids .now)) (omega arith) in
+    let long : length (c .before .before .before .before .put-ids .last .0)
+    ≡ length (c .before .before .before .before .before .before .before .before .before .before .before .before .args .reply .now) = ap length
+    (l .1 .1) ∙ simp length-sets (ap length (n .1) ∙ simp length-sets) in
     omega (arith, n .0, l .0)
 
 same-length : tie.Need-same-length
@@ -43,9 +47,14 @@ same-length c = search needs
 returns : tie.Need-returns
 unfolding asLine listBytes
 returns c =
-    let ids = c .before .before .before .before .before .before .before .before .before .before .before .before .before .before .before .args .ids .now in
+    let ids = c .before .before .before .before .before .before .before .before .before .before .before .before .before .before .before .args .ids .now
+    in
     let l = c .before .before .before .before .before .before .before .put-ids .ensures in
-    let three = three-puts (c .before .before .before .before .before .before .before .before .before .before .before .before .before .before .before .args .reply .now) (decimal (length ids)) (idBytes ids) (newline ∷ []) (c .before .before .before .before .before .before .before .before .before .before .before .put-number .ensures) (l .1) (c .before .before .put .ensures) in
+    let three = three-puts
+    (c .before .before .before .before .before .before .before .before .before .before .before .before .before .before .before .args .reply .now)
+    (decimal (length ids)) (idBytes ids) (newline ∷ [])
+    (c .before .before .before .before .before .before .before .before .before .before .before .put-number .ensures) (l .1)
+    (c .before .before .put .ensures) in
     rw (← append-assoc (decimal (length ids)) (idBytes ids) (newline ∷ [])) at three
 
 pub put-list-spec : {M : Type 1} → statement M

@@ -45,7 +45,9 @@ put-requires-3 c κs =
     let w = c .before .before .before .before .before .before .before .before .before .put2 .ensures in
     let n = c .before .before .before .before .put-number .ensures in
     let few = ten-digits (c .before .before .before .before .before .refusal-number .result) (omega arith) in
-    let long : length (c .before .before .before .before .put-number .last .0) ≡ length (c .before .before .before .before .before .before .before .before .before .before .before .before .before .before .before .before .args .reply .now) = ap length (n .1) ∙ simp length-sets (ap length (w .1) ∙ simp length-sets) in
+    let long : length (c .before .before .before .before .put-number .last .0)
+    ≡ length (c .before .before .before .before .before .before .before .before .before .before .before .before .before .before .before .before .args .reply .now) =
+    ap length (n .1) ∙ simp length-sets (ap length (w .1) ∙ simp length-sets) in
     omega (arith, w .0, n .0)
 
 same-length : tie.Need-same-length
@@ -53,7 +55,8 @@ same-length c = search needs
 
 returns : tie.Need-returns
 unfolding asLine outcomeBytes okBytes
-returns c = rw (c .before .before .before .before .before .enum-told .given .1) (c .before .before .put .ensures .0, c .before .before .put .ensures .1)
+returns c = rw (c .before .before .before .before .before .enum-told .given .1)
+    (c .before .before .put .ensures .0, c .before .before .put .ensures .1)
 
 same-length-2 : tie.Need-same-length-2
 same-length-2 c = search needs
@@ -62,8 +65,13 @@ returns-2 : tie.Need-returns-2
 unfolding asLine outcomeBytes refusedBytes
 returns-2 c =
     let r = c .before .before .before .before .before .before .before .before .refusal-number in
-    let three = three-puts (c .before .before .before .before .before .before .before .before .before .before .before .before .before .before .before .before .before .before .before .args .reply .now) (refusedBytes ++ (space ∷ [])) (decimal (r .result)) (newline ∷ []) (c .before .before .before .before .before .before .before .before .before .before .before .before .put2 .ensures) (c .before .before .before .before .before .before .before .put-number .ensures) (c .before .before .put3 .ensures) in
-    rw (c .before .before .before .before .before .before .before .before .before .before .before .before .before .before .before .before .outcome .given .1) (rw (r .ensures) at three)
+    let three = three-puts
+    (c .before .before .before .before .before .before .before .before .before .before .before .before .before .before .before .before .before .before .before .args .reply .now)
+    (refusedBytes ++ (space ∷ [])) (decimal (r .result)) (newline ∷ [])
+    (c .before .before .before .before .before .before .before .before .before .before .before .before .put2 .ensures)
+    (c .before .before .before .before .before .before .before .put-number .ensures) (c .before .before .put3 .ensures) in
+    rw (c .before .before .before .before .before .before .before .before .before .before .before .before .before .before .before .before .outcome .given .1)
+    (rw (r .ensures) at three)
 
 pub put-outcome-spec : {M : Type 1} → statement M
 put-outcome-spec =

@@ -18,7 +18,8 @@ returns : tie.Need-returns
 unfolding turnOf
 returns c =
     let a = c .before .before .before .before .before .before .before .before .before .before .args in
-    λ l. done-else (a .desk .started) _ _ (not-true _ (c .before .before .before .before .if1 .taken)) (c .before .before .bad-turn .ensures (index (a .directory .now) (a .originals .now) (a .replicas .now)) l)
+    λ l. done-else (a .desk .started) _ _ (not-true _ (c .before .before .before .before .if1 .taken))
+    (c .before .before .bad-turn .ensures (index (a .directory .now) (a .originals .now) (a .replicas .now)) l)
 
 at-requires : tie.Need-at-requires
 at-requires c κs = search needs
@@ -43,7 +44,14 @@ same-length-5 c = search needs
 
 returns-2 : tie.Need-returns-2
 unfolding turnOf
-returns-2 c = λ l. done-then (c .before .before .before .before .before .before .before .before .before .before .before .before .before .before .before .before .before .before .before .before .before .args .desk .started) _ _ (not-false _ (c .before .before .before .before .before .before .before .before .before .before .before .before .before .before .before .if1 .left)) (rw (c .before .before .before .before .before .before .before .before .before .before .before .before .before .before .at .ensures, c .before .before .before .before .before .before .before .before .before .before .before .before .before .at2 .ensures) at (c .before .before .before .before .before .before .before .before .add-turn .ensures l))
+returns-2 c = λ l. done-then
+    (c .before .before .before .before .before .before .before .before .before .before .before .before .before .before .before .before .before .before .before .before .before .args .desk .started)
+    _ _ (not-false _ (c .before .before .before .before .before .before .before .before .before .before .before .before .before .before .before .if1 .left))
+    (rw (
+      c .before .before .before .before .before .before .before .before .before .before .before .before .before .before .at .ensures,
+      c .before .before .before .before .before .before .before .before .before .before .before .before .before .at2 .ensures,
+    ) at
+    (c .before .before .before .before .before .before .before .before .add-turn .ensures l))
 
 pub add-line-spec : {M : Type 1} → statement M
 add-line-spec =

@@ -18,7 +18,8 @@ part-add-start : tie.Need-part-add-start
 part-add-start c = search needs
 
 part-add-end : tie.Need-part-add-end
-part-add-end c = let g = c .before .before .before .before .before .before in in-front (g .args .desk .numbers) (g .args .directory .now) (c .directory-length .ensures) (g .pre .0) (g .pre .1)
+part-add-end c = let g = c .before .before .before .before .before .before in
+    in-front (g .args .desk .numbers) (g .args .directory .now) (c .directory-length .ensures) (g .pre .0) (g .pre .1)
 
 add-requires : tie.Need-add-requires
 add-requires c κs = search needs
@@ -43,13 +44,17 @@ same-length-4 c = search needs
 
 returns : tie.Need-returns
 returns c =
-    let g = c .before .before .before .before .before .before .before .before .before .before .before .before .before .before .before .before .before .before .before .before .before in
+    let g = c .before .before .before .before .before .before .before .before .before .before .before .before .before .before .before .before .before .before .before .before .before
+    in
     let a = g .args in
-    let n = c .before .before .before .before .before .before .before .before .before .before .before .before .before .before .before .directory-length in
+    let n = c .before .before .before .before .before .before .before .before .before .before .before .before .before .before .before .directory-length
+    in
     let made = c .before .before .before .before .before .before .before .before .before .before .before .add in
     let call : Index → After = λ x. addOf (scaleOf (a .desk .numbers)) x (a .t) in
-    λ l. rw (c .goes-on .ensures) (edited-done (a .desk .numbers) (a .directory .now) (a .originals .now) (a .replicas .now) (n .result) (n .ensures) (g .pre .0) (g .pre .1)
-    (a .desk) l call (made .ensures) (c .before .before .before .before .before .before .before .before .before .before .directory .given .0) (c .before .before .before .put-outcome .ensures))
+    λ l. rw (c .goes-on .ensures) (edited-done (a .desk .numbers) (a .directory .now) (a .originals .now) (a .replicas .now) (n .result)
+    (n .ensures) (g .pre .0) (g .pre .1)
+    (a .desk) l call (made .ensures) (c .before .before .before .before .before .before .before .before .before .before .directory .given .0)
+    (c .before .before .before .put-outcome .ensures))
 
 pub add-turn-spec : {M : Type 1} → statement M
 add-turn-spec =

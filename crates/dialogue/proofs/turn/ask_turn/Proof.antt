@@ -19,7 +19,8 @@ part-ask-start : tie.Need-part-ask-start
 part-ask-start c = search needs
 
 part-ask-end : tie.Need-part-ask-end
-part-ask-end c = let g = c .before .before .before .before .before .before .before in in-front (g .args .desk .numbers) (g .args .directory .now) (c .directory-length .ensures) (g .pre .0) (g .pre .1)
+part-ask-end c = let g = c .before .before .before .before .before .before .before in
+    in-front (g .args .desk .numbers) (g .args .directory .now) (c .directory-length .ensures) (g .pre .0) (g .pre .1)
 
 ask-requires : tie.Need-ask-requires
 ask-requires c κs = search needs
@@ -36,7 +37,8 @@ part-put-answer-start c = search needs
 part-put-answer-end : tie.Need-part-put-answer-end
 part-put-answer-end c =
     let a = c .before .before .before .before .before .before .before .before .before .before .before .before .before .before .before .args in
-    count-within (scaleOf (a .desk .numbers)) _ (a .code) (a .window) (a .answers .now) (c .before .before .before .before .before .ask .ensures) (c .before .before .before .before .answers .given)
+    count-within (scaleOf (a .desk .numbers)) _ (a .code) (a .window) (a .answers .now) (c .before .before .before .before .before .ask .ensures)
+    (c .before .before .before .before .answers .given)
 
 put-answer-requires : tie.Need-put-answer-requires
 put-answer-requires c κs =
@@ -58,11 +60,13 @@ same-length-2 c = search needs
 
 returns : tie.Need-returns
 returns c =
-    let a = c .before .before .before .before .before .before .before .before .before .before .before .before .before .before .before .before .before .before .before .before .args in
+    let a = c .before .before .before .before .before .before .before .before .before .before .before .before .before .before .before .before .before .before .before .before .args
+    in
     let n = c .before .before .before .before .before .before .before .before .before .before .before .before .before .directory-length in
     let call : Index → Asked = λ x. askOf (scaleOf (a .desk .numbers)) x (a .code) (a .window) (a .answers .now) in
     rw (c .goes-on .ensures) (answered-done (a .desk .numbers) (a .directory .now) (a .originals .now) (a .replicas .now) (n .result) (n .ensures)
-    (a .desk) (a .answers .now) call (c .before .before .before .before .before .before .before .before .before .before .ask .ensures) (c .before .before .before .put-answer .ensures))
+    (a .desk) (a .answers .now) call (c .before .before .before .before .before .before .before .before .before .before .ask .ensures)
+    (c .before .before .before .put-answer .ensures))
 
 pub ask-turn-spec : {M : Type 1} → statement M
 ask-turn-spec =

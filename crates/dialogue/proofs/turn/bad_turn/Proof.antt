@@ -14,7 +14,12 @@ same-length c = search needs
 
 returns : tie.Need-returns
 unfolding badLine
-returns c = λ x l. record { next = refl; goes = refl; count = c .before .before .put-bad-line .ensures .0; bytes = c .before .before .put-bad-line .ensures .1 }
+returns c = λ x l. record {
+  next = refl;
+  goes = refl;
+  count = c .before .before .put-bad-line .ensures .0;
+  bytes = c .before .before .put-bad-line .ensures .1;
+}
 
 pub bad-turn-spec : {M : Type 1} → statement M
 bad-turn-spec = tie.close (tie.spec put-bad-line-requires same-length returns)

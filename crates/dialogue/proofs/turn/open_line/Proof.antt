@@ -17,10 +17,16 @@ returns : tie.Need-returns
 unfolding turnOf
 returns c =
     let a = c .before .before .before .before .before .before .before .before .before .before .args in
-    λ l. rw (c .before .before .before .before .if1 .taken) (c .before .before .bad-turn .ensures (index (a .directory .now) (a .originals .now) (a .replicas .now)) l)
+    λ l. rw (c .before .before .before .before .if1 .taken) (c .before .before .bad-turn .ensures
+    (index (a .directory .now) (a .originals .now) (a .replicas .now)) l)
 
 open-turn-requires : tie.Need-open-turn-requires
-open-turn-requires c κs = (not-deeper (c .before .before .before .before .before .before .before .before .before .before .args .desk .started) (c .before .before .before .before .before .before .before .before .before .before .args .m) (c .before .before .before .before .if1 .left), c .before .before .before .before .before .before .before .before .before .before .pre .0, c .before .before .before .before .before .before .before .before .before .before .pre .1)
+open-turn-requires c κs = (
+  not-deeper (c .before .before .before .before .before .before .before .before .before .before .args .desk .started)
+      (c .before .before .before .before .before .before .before .before .before .before .args .m) (c .before .before .before .before .if1 .left),
+  c .before .before .before .before .before .before .before .before .before .before .pre .0,
+  c .before .before .before .before .before .before .before .before .before .before .pre .1,
+)
 
 same-length-2 : tie.Need-same-length-2
 same-length-2 c = search needs
@@ -36,7 +42,8 @@ same-length-5 c = search needs
 
 returns-2 : tie.Need-returns-2
 unfolding turnOf
-returns-2 c = λ l. rw (c .before .before .before .before .before .before .before .before .before .before .before .before .before .if1 .left) (c .before .before .before .before .before .before .before .before .open-turn .ensures l)
+returns-2 c = λ l. rw (c .before .before .before .before .before .before .before .before .before .before .before .before .before .if1 .left)
+    (c .before .before .before .before .before .before .before .before .open-turn .ensures l)
 
 pub open-line-spec : {M : Type 1} → statement M
 open-line-spec =

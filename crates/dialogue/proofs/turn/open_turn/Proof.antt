@@ -52,11 +52,15 @@ same-length-4 c = search needs
 
 returns : tie.Need-returns
 returns c =
-    let g = c .before .before .before .before .before .before .before .before .before .before .before .before .before .before .before .before .before .before .before .before .before .before in
+    let g = c .before .before .before .before .before .before .before .before .before .before .before .before .before .before .before .before .before .before .before .before .before .before
+    in
     let a = g .args in
-    let n = c .before .before .before .before .before .before .before .before .before .before .before .before .before .before .before .before .before .directory-length in
+    let n = c .before .before .before .before .before .before .before .before .before .before .before .before .before .before .before .before .before .directory-length
+    in
     λ l. opened-done (a .numbers) (a .directory .now) (a .originals .now) (a .replicas .now) (n .result) (n .ensures) (g .pre .0) (g .pre .1)
-    (a .desk) l (c .before .before .before .before .before .before .before .before .before .before .before .build .ensures) refl (c .before .before .before .before .before .before .before .before .before .before .directory .given .0) (c .is-accepted .ensures) (c .before .before .before .put-outcome .ensures)
+    (a .desk) l (c .before .before .before .before .before .before .before .before .before .before .before .build .ensures) refl
+    (c .before .before .before .before .before .before .before .before .before .before .directory .given .0) (c .is-accepted .ensures)
+    (c .before .before .before .put-outcome .ensures)
 
 pub open-turn-spec : {M : Type 1} → statement M
 open-turn-spec =

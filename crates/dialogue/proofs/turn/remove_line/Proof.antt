@@ -18,7 +18,8 @@ returns : tie.Need-returns
 unfolding turnOf
 returns c =
     let a = c .before .before .before .before .before .before .before .before .before .before .args in
-    λ l. done-else (a .desk .started) _ _ (not-true _ (c .before .before .before .before .if1 .taken)) (c .before .before .bad-turn .ensures (index (a .directory .now) (a .originals .now) (a .replicas .now)) l)
+    λ l. done-else (a .desk .started) _ _ (not-true _ (c .before .before .before .before .if1 .taken))
+    (c .before .before .bad-turn .ensures (index (a .directory .now) (a .originals .now) (a .replicas .now)) l)
 
 remove-turn-requires : tie.Need-remove-turn-requires
 remove-turn-requires c κs = search needs
@@ -37,7 +38,10 @@ same-length-5 c = search needs
 
 returns-2 : tie.Need-returns-2
 unfolding turnOf
-returns-2 c = λ l. done-then (c .before .before .before .before .before .before .before .before .before .before .before .before .before .before .before .before .before .before .before .args .desk .started) _ _ (not-false _ (c .before .before .before .before .before .before .before .before .before .before .before .before .before .if1 .left)) (c .before .before .before .before .before .before .before .before .remove-turn .ensures l)
+returns-2 c = λ l. done-then
+    (c .before .before .before .before .before .before .before .before .before .before .before .before .before .before .before .before .before .before .before .args .desk .started)
+    _ _ (not-false _ (c .before .before .before .before .before .before .before .before .before .before .before .before .before .if1 .left))
+    (c .before .before .before .before .before .before .before .before .remove-turn .ensures l)
 
 pub remove-line-spec : {M : Type 1} → statement M
 remove-line-spec =

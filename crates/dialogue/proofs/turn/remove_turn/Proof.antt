@@ -18,7 +18,8 @@ part-remove-start : tie.Need-part-remove-start
 part-remove-start c = search needs
 
 part-remove-end : tie.Need-part-remove-end
-part-remove-end c = let g = c .before .before .before .before .before .before in in-front (g .args .desk .numbers) (g .args .directory .now) (c .directory-length .ensures) (g .pre .0) (g .pre .1)
+part-remove-end c = let g = c .before .before .before .before .before .before in
+    in-front (g .args .desk .numbers) (g .args .directory .now) (c .directory-length .ensures) (g .pre .0) (g .pre .1)
 
 remove-requires : tie.Need-remove-requires
 remove-requires c κs = search needs
@@ -43,13 +44,17 @@ same-length-4 c = search needs
 
 returns : tie.Need-returns
 returns c =
-    let g = c .before .before .before .before .before .before .before .before .before .before .before .before .before .before .before .before .before .before .before .before .before in
+    let g = c .before .before .before .before .before .before .before .before .before .before .before .before .before .before .before .before .before .before .before .before .before
+    in
     let a = g .args in
-    let n = c .before .before .before .before .before .before .before .before .before .before .before .before .before .before .before .directory-length in
+    let n = c .before .before .before .before .before .before .before .before .before .before .before .before .before .before .before .directory-length
+    in
     let made = c .before .before .before .before .before .before .before .before .before .before .before .remove in
     let call : Index → After = λ x. removeOf (scaleOf (a .desk .numbers)) x (a .id) in
-    λ l. rw (c .goes-on .ensures) (edited-done (a .desk .numbers) (a .directory .now) (a .originals .now) (a .replicas .now) (n .result) (n .ensures) (g .pre .0) (g .pre .1)
-    (a .desk) l call (made .ensures) (c .before .before .before .before .before .before .before .before .before .before .directory .given .0) (c .before .before .before .put-outcome .ensures))
+    λ l. rw (c .goes-on .ensures) (edited-done (a .desk .numbers) (a .directory .now) (a .originals .now) (a .replicas .now) (n .result)
+    (n .ensures) (g .pre .0) (g .pre .1)
+    (a .desk) l call (made .ensures) (c .before .before .before .before .before .before .before .before .before .before .directory .given .0)
+    (c .before .before .before .put-outcome .ensures))
 
 pub remove-turn-spec : {M : Type 1} → statement M
 remove-turn-spec =

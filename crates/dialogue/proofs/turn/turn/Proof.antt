@@ -46,7 +46,8 @@ returns : tie.Need-returns
 unfolding turnOf
 returns c =
     let a = c .before .before .before .before .before .before .before .before .before .before .before .before .before .args in
-    rw (← c .before .before .before .before .before .before .command-of .ensures, c .before .before .before .before .enum-told .given .1) (c .before .before .bad-turn .ensures (index (a .directory .now) (a .originals .now) (a .replicas .now)) (a .answers .now))
+    rw (← c .before .before .before .before .before .before .command-of .ensures, c .before .before .before .before .enum-told .given .1)
+    (c .before .before .bad-turn .ensures (index (a .directory .now) (a .originals .now) (a .replicas .now)) (a .answers .now))
 
 same-length-2 : tie.Need-same-length-2
 same-length-2 c = search needs
@@ -62,8 +63,13 @@ same-length-5 c = search needs
 
 returns-2 : tie.Need-returns-2
 returns-2 c =
-    let a = c .before .before .before .before .before .before .before .before .before .before .before .before .before .before .before .before .before .before .before .before .before .before .before .args in
-    rw (← c .before .before .before .before .before .before .before .before .before .before .before .before .before .before .before .before .command-of .ensures, c .before .before .before .before .before .before .before .before .before .before .before .before .before .before .command .given .1) (c .before .before .before .before .before .before .before .before .open-line .ensures (a .answers .now))
+    let a = c .before .before .before .before .before .before .before .before .before .before .before .before .before .before .before .before .before .before .before .before .before .before .before .args
+    in
+    rw (
+      ← c .before .before .before .before .before .before .before .before .before .before .before .before .before .before .before .before .command-of .ensures,
+      c .before .before .before .before .before .before .before .before .before .before .before .before .before .before .command .given .1,
+    )
+    (c .before .before .before .before .before .before .before .before .open-line .ensures (a .answers .now))
 
 same-length-6 : tie.Need-same-length-6
 same-length-6 c = search needs
@@ -79,8 +85,13 @@ same-length-9 c = search needs
 
 returns-3 : tie.Need-returns-3
 returns-3 c =
-    let a = c .before .before .before .before .before .before .before .before .before .before .before .before .before .before .before .before .before .before .before .before .before .before .before .args in
-    rw (← c .before .before .before .before .before .before .before .before .before .before .before .before .before .before .before .before .command-of .ensures, c .before .before .before .before .before .before .before .before .before .before .before .before .before .before .command2 .given .1) (c .before .before .before .before .before .before .before .before .add-line .ensures (a .answers .now))
+    let a = c .before .before .before .before .before .before .before .before .before .before .before .before .before .before .before .before .before .before .before .before .before .before .before .args
+    in
+    rw (
+      ← c .before .before .before .before .before .before .before .before .before .before .before .before .before .before .before .before .command-of .ensures,
+      c .before .before .before .before .before .before .before .before .before .before .before .before .before .before .command2 .given .1,
+    )
+    (c .before .before .before .before .before .before .before .before .add-line .ensures (a .answers .now))
 
 same-length-10 : tie.Need-same-length-10
 same-length-10 c = search needs
@@ -96,8 +107,13 @@ same-length-13 c = search needs
 
 returns-4 : tie.Need-returns-4
 returns-4 c =
-    let a = c .before .before .before .before .before .before .before .before .before .before .before .before .before .before .before .before .before .before .before .before .before .before .before .args in
-    rw (← c .before .before .before .before .before .before .before .before .before .before .before .before .before .before .before .before .command-of .ensures, c .before .before .before .before .before .before .before .before .before .before .before .before .before .before .command3 .given .1) (c .before .before .before .before .before .before .before .before .remove-line .ensures (a .answers .now))
+    let a = c .before .before .before .before .before .before .before .before .before .before .before .before .before .before .before .before .before .before .before .before .before .before .before .args
+    in
+    rw (
+      ← c .before .before .before .before .before .before .before .before .before .before .before .before .before .before .before .before .command-of .ensures,
+      c .before .before .before .before .before .before .before .before .before .before .before .before .before .before .command3 .given .1,
+    )
+    (c .before .before .before .before .before .before .before .before .remove-line .ensures (a .answers .now))
 
 same-length-14 : tie.Need-same-length-14
 same-length-14 c = search needs
@@ -116,8 +132,13 @@ same-length-18 c = search needs
 
 returns-5 : tie.Need-returns-5
 returns-5 c =
-    let a = c .before .before .before .before .before .before .before .before .before .before .before .before .before .before .before .before .before .before .before .before .args in
-    rw (← c .before .before .before .before .before .before .before .before .before .before .before .before .before .command-of .ensures, c .before .before .before .before .before .before .before .before .before .before .before .command4 .given .1) (c .before .before .before .before .ask-line .ensures)
+    let a = c .before .before .before .before .before .before .before .before .before .before .before .before .before .before .before .before .before .before .before .before .args
+    in
+    rw (
+      ← c .before .before .before .before .before .before .before .before .before .before .before .before .before .command-of .ensures,
+      c .before .before .before .before .before .before .before .before .before .before .before .command4 .given .1,
+    )
+    (c .before .before .before .before .ask-line .ensures)
 
 pub turn-spec : {M : Type 1} → statement M
 turn-spec =

@@ -34,11 +34,14 @@ in-index g = shown _ _ (checked _ _ (g .pre .1))
 
 -- past the first test: there may be one more trip
 few : (c : tie.Else1) → leb mostTrips (length (trips (c .before .before .before .before .before .before))) ≡ false
-few c = let g = c .before .before .before .before .before .before in lt-leb mostTrips (length (trips g)) (omega (arith, in-index g .trips, c .if1 .left))
+few c = let g = c .before .before .before .before .before .before in
+    lt-leb mostTrips (length (trips g)) (omega (arith, in-index g .trips, c .if1 .left))
 
 -- the outcome of the trip's tests among the trips of the index
 row-is : (c : tie.After-is-accepted) → c .before .trip-outcome .result
-    ≡ rowTests (scale (c .before .before .before .before .before .before .before .before .before .args .ruler)) (trips (c .before .before .before .before .before .before .before .before .before)) (c .before .before .before .before .before .before .before .before .before .args .t) 0 Accepted
+    ≡ rowTests (scale (c .before .before .before .before .before .before .before .before .before .args .ruler))
+    (trips (c .before .before .before .before .before .before .before .before .before))
+    (c .before .before .before .before .before .before .before .before .before .args .t) 0 Accepted
 unfolding entryWords
 row-is c =
     let g = c .before .before .before .before .before .before .before .before .before in
@@ -47,7 +50,9 @@ row-is c =
     c .before .trip-outcome .ensures ∙ ap (λ (l : List Trip). rowTests (scale (g .args .ruler)) l (g .args .t) 0 Accepted) read
 
 -- past the second: the trip passes them
-row-ok : (c : tie.Else2) → RowOk (scale (c .before .before .before .before .before .before .before .before .before .before .args .ruler)) (trips (c .before .before .before .before .before .before .before .before .before .before)) (c .before .before .before .before .before .before .before .before .before .before .args .t)
+row-ok : (c : tie.Else2) → RowOk (scale (c .before .before .before .before .before .before .before .before .before .before .args .ruler))
+    (trips (c .before .before .before .before .before .before .before .before .before .before))
+    (c .before .before .before .before .before .before .before .before .before .before .args .t)
 row-ok c = row-taken _ _ _ _ (row-is (c .before)) (sym (c .before .is-accepted .ensures) ∙ not-false _ (c .if2 .left))
 
 sub-trips : tie.Need-sub-trips
@@ -134,7 +139,9 @@ returns-3 c =
     let g = c .before .before .before .before .before .before .before .before .before .before .before .before .before in
     let row = row-ok (c .before .before .before) in
     let cells = cells-in (g .args .ruler) (g .pre .0) (g .args .t) (row .fits) in
-    c .refused2 .ensures ∙ sym (add-room (scale (g .args .ruler)) (words g) (g .args .t) (g .pre .1) (in-index g) (few (c .before .before .before .before .before .before .before)) row (cells .1) true _ (sym (c .before .before .lacks-room .ensures) ∙ c .before .if3 .taken) refl)
+    c .refused2 .ensures ∙ sym (add-room (scale (g .args .ruler)) (words g) (g .args .t) (g .pre .1) (in-index g)
+    (few (c .before .before .before .before .before .before .before)) row (cells .1) true _
+    (sym (c .before .before .lacks-room .ensures) ∙ c .before .if3 .taken) refl)
 
 lacks-room-requires-2 : tie.Need-lacks-room-requires-2
 unfolding entryWords refuse
@@ -152,8 +159,10 @@ returns-4 c =
     let g = c .before .before .before .before .before .before .before .before .before .before .before .before .before .before .before in
     let row = row-ok (c .before .before .before .before .before) in
     let cells = cells-in (g .args .ruler) (g .pre .0) (g .args .t) (row .fits) in
-    c .refused3 .ensures ∙ sym (add-room (scale (g .args .ruler)) (words g) (g .args .t) (g .pre .1) (in-index g) (few (c .before .before .before .before .before .before .before .before .before)) row (cells .1) false true
-    (sym (c .before .before .before .before .lacks-room .ensures) ∙ c .before .before .before .if3 .left) (sym (c .before .before .lacks-room2 .ensures) ∙ c .before .if4 .taken))
+    c .refused3 .ensures ∙ sym (add-room (scale (g .args .ruler)) (words g) (g .args .t) (g .pre .1) (in-index g)
+    (few (c .before .before .before .before .before .before .before .before .before)) row (cells .1) false true
+    (sym (c .before .before .before .before .lacks-room .ensures) ∙ c .before .before .before .if3 .left)
+    (sym (c .before .before .lacks-room2 .ensures) ∙ c .before .if4 .taken))
 
 returns-5 : tie.Need-returns-5
 unfolding entryWords refuse
@@ -161,7 +170,8 @@ returns-5 c =
     let g = c .before .before .before .before .before .before .before .before .before .before .before .before .before .before in
     let row = row-ok (c .before .before .before .before) in
     let cells = cells-in (g .args .ruler) (g .pre .0) (g .args .t) (row .fits) in
-    sym (add-room (scale (g .args .ruler)) (words g) (g .args .t) (g .pre .1) (in-index g) (few (c .before .before .before .before .before .before .before .before)) row (cells .1) false false
+    sym (add-room (scale (g .args .ruler)) (words g) (g .args .t) (g .pre .1) (in-index g)
+    (few (c .before .before .before .before .before .before .before .before)) row (cells .1) false false
     (sym (c .before .before .before .lacks-room .ensures) ∙ c .before .before .if3 .left) (sym (c .before .lacks-room2 .ensures) ∙ c .if4 .left))
 
 pub add-outcome-spec : {M : Type 1} → statement M

@@ -71,7 +71,10 @@ returns-3 c =
     let s = scale (g .args .ruler) in
     let ts = rows (g .args .there .now) in
     let off : not (s .has (t .start) && s .has (t .end)) ≡ false =
-    rw (← c .before .before .before .before .before .before .before .has .ensures, ← c .before .before .before .before .before .before .has2 .ensures) (c .before .before .before .before .before .if1 .left) in
+    rw (
+      ← c .before .before .before .before .before .before .before .has .ensures,
+      ← c .before .before .before .before .before .before .has2 .ensures,
+    ) (c .before .before .before .before .before .if1 .left) in
     let back : before (t .end) (t .start) ≡ false = sym (c .before .before .before .before .before2 .ensures)
     ∙ c .before .before .before .if2 .left in
     let known : hasId (t .id) ts ≡ true =
@@ -106,7 +109,11 @@ returns-4 c =
     let s = scale (g .args .ruler) in
     let ts = rows (g .args .there .now) in
     let off : not (s .has (t .start) && s .has (t .end)) ≡ false =
-    rw (← c .before .before .before .before .before .before .before .before .before .has .ensures, ← c .before .before .before .before .before .before .before .before .has2 .ensures) (c .before .before .before .before .before .before .before .if1 .left) in
+    rw (
+      ← c .before .before .before .before .before .before .before .before .before .has .ensures,
+      ← c .before .before .before .before .before .before .before .before .has2 .ensures,
+    )
+    (c .before .before .before .before .before .before .before .if1 .left) in
     let back : before (t .end) (t .start) ≡ false = sym (c .before .before .before .before .before .before .before2 .ensures)
     ∙ c .before .before .before .before .before .if2 .left in
     let known : hasId (t .id) ts ≡ false =
@@ -124,7 +131,10 @@ returns-5 c =
     let s = scale (g .args .ruler) in
     let ts = rows (g .args .there .now) in
     let off : not (s .has (t .start) && s .has (t .end)) ≡ false =
-    rw (← c .before .before .before .before .before .before .before .before .has .ensures, ← c .before .before .before .before .before .before .before .has2 .ensures) (c .before .before .before .before .before .before .if1 .left) in
+    rw (
+      ← c .before .before .before .before .before .before .before .before .has .ensures,
+      ← c .before .before .before .before .before .before .before .has2 .ensures,
+    ) (c .before .before .before .before .before .before .if1 .left) in
     let back : before (t .end) (t .start) ≡ false = sym (c .before .before .before .before .before .before2 .ensures)
     ∙ c .before .before .before .before .if2 .left in
     let known : hasId (t .id) ts ≡ false =

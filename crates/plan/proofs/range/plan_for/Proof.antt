@@ -23,7 +23,8 @@ at-requires c κs = search needs
 
 power-requires : tie.Need-power-requires
 unfolding scaleOf
-power-requires c κs = let s = c .before .before .before .before in omega (arith, c .before .before .before .bottom .ensures, bounds (s .args .ruler .numbers) (to-T (s .pre)) .deep)
+power-requires c κs = let s = c .before .before .before .before in
+    omega (arith, c .before .before .before .bottom .ensures, bounds (s .args .ruler .numbers) (to-T (s .pre)) .deep)
 
 sub-at : tie.Need-sub-at
 sub-at c = omega (arith, c .power .ensures, pow-pos (c .before .before .before .before .bottom .result))
@@ -36,7 +37,15 @@ plan-of-requires c κs = search needs
 
 returns : tie.Need-returns
 unfolding planFor
-returns c = rw (c .plan-of .ensures, c .before .at2 .ensures, c .before .before .power .ensures, c .before .before .before .at .ensures, c .before .before .before .before .cell2 .ensures, c .before .before .before .before .before .cell .ensures, c .before .before .before .before .before .before .bottom .ensures)
+returns c = rw (
+  c .plan-of .ensures,
+  c .before .at2 .ensures,
+  c .before .before .power .ensures,
+  c .before .before .before .at .ensures,
+  c .before .before .before .before .cell2 .ensures,
+  c .before .before .before .before .before .cell .ensures,
+  c .before .before .before .before .before .before .bottom .ensures,
+)
 
 pub plan-for-spec : {M : Type 1} → statement M
 plan-for-spec =

@@ -36,12 +36,22 @@ cast-result-2 c = omega (arith, shr-le (c .before .before .number .result) (c .b
 add-result : tie.Need-add-result
 add-result c =
     let g = c .before .before .before .args in
-    omega (arith, c .power .ensures, pow-mono {i = g .level} {j = 10} (omega arith), shr-le (c .before .before .number .result) (c .before .level .result - g .level))
+    omega (
+      arith,
+      c .power .ensures,
+      pow-mono {i = g .level} {j = 10} (omega arith),
+      shr-le (c .before .before .number .result) (c .before .level .result - g .level),
+    )
 
 mul-result : tie.Need-mul-result
 mul-result c =
     let g = c .before .before .before .args in
-    omega (arith, c .power .ensures, pow-mono {i = g .level} {j = 10} (omega arith), shr-le (c .before .before .number .result) (c .before .level .result - g .level))
+    omega (
+      arith,
+      c .power .ensures,
+      pow-mono {i = g .level} {j = 10} (omega arith),
+      shr-le (c .before .before .number .result) (c .before .level .result - g .level),
+    )
 
 returns : tie.Need-returns
 unfolding firstSlot partitionNumber cellUp

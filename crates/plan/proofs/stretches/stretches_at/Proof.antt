@@ -37,7 +37,13 @@ add-new-2 c =
     let s = c .before .before .before .before .before .before .before .before in
     let i = slots-in (s .args .plan) (s .pre .0) (s .args .level) (s .pre .1) in
     let h = half-small (c .before .level .result) (omega (arith, s .pre .0 .deep)) in
-    omega (arith, half-small deepest (omega arith), c .before .before .before .before .before .slot-at .ensures, c .before .before .before .before .slot-at2 .ensures, c .half-length .ensures)
+    omega (
+      arith,
+      half-small deepest (omega arith),
+      c .before .before .before .before .before .slot-at .ensures,
+      c .before .before .before .before .slot-at2 .ensures,
+      c .half-length .ensures,
+    )
 
 replica-slots-requires : tie.Need-replica-slots-requires
 replica-slots-requires c κs = search needs
@@ -48,7 +54,14 @@ add-new-3 c =
     let i = slots-in (s .args .plan) (s .pre .0) (s .args .level) (s .pre .1) in
     let h = half-small (c .before .before .level .result) (omega (arith, s .pre .0 .deep)) in
     let k = few-slots (s .args .plan .kind) in
-    omega (arith, half-small deepest (omega arith), c .before .before .before .before .before .before .slot-at .ensures, c .before .before .before .before .before .slot-at2 .ensures, c .before .half-length .ensures, c .replica-slots .ensures)
+    omega (
+      arith,
+      half-small deepest (omega arith),
+      c .before .before .before .before .before .before .slot-at .ensures,
+      c .before .before .before .before .before .slot-at2 .ensures,
+      c .before .half-length .ensures,
+      c .replica-slots .ensures,
+    )
 
 new-requires : tie.Need-new-requires
 new-requires c κs = search needs
@@ -60,12 +73,26 @@ arranged-requires : tie.Need-arranged-requires
 arranged-requires c κs =
     let s = c .before .before .before .before .before .before .before .before .before .before .before in
     let i = slots-in (s .args .plan) (s .pre .0) (s .args .level) (s .pre .1) in
-    let k = few-slots (s .args .plan .kind) in
-    (omega (arith, c .before .before .before .before .before .before .before .before .slot-at .ensures), omega (arith, c .before .before .before .before .before .before .before .slot-at2 .ensures), omega (arith, c .original-slots .ensures))
+    let k = few-slots (s .args .plan .kind) in (
+      omega (arith, c .before .before .before .before .before .before .before .before .slot-at .ensures),
+      omega (arith, c .before .before .before .before .before .before .before .slot-at2 .ensures),
+      omega (arith, c .original-slots .ensures),
+    )
 
 returns : tie.Need-returns
 unfolding stretchesAt
-returns c = rw (c .arranged .ensures, c .before .original-slots .ensures, c .before .before .new .ensures, c .before .before .before .replica-slots .ensures, c .before .before .before .before .half-length .ensures, c .before .before .before .before .before .level .ensures, c .before .before .before .before .before .before .sure-last .ensures, c .before .before .before .before .before .before .before .sure-first .ensures, c .before .before .before .before .before .before .before .before .slot-at2 .ensures, c .before .before .before .before .before .before .before .before .before .slot-at .ensures)
+returns c = rw (
+  c .arranged .ensures,
+  c .before .original-slots .ensures,
+  c .before .before .new .ensures,
+  c .before .before .before .replica-slots .ensures,
+  c .before .before .before .before .half-length .ensures,
+  c .before .before .before .before .before .level .ensures,
+  c .before .before .before .before .before .before .sure-last .ensures,
+  c .before .before .before .before .before .before .before .sure-first .ensures,
+  c .before .before .before .before .before .before .before .before .slot-at2 .ensures,
+  c .before .before .before .before .before .before .before .before .before .slot-at .ensures,
+)
 
 pub stretches-at-spec : {M : Type 1} → statement M
 stretches-at-spec =

@@ -20,11 +20,17 @@ at-requires : tie.Need-at-requires
 at-requires c κs = search needs
 
 begins-requires : tie.Need-begins-requires
-begins-requires c κs = let s = c .before .before .before .before in rw (c .at .ensures, c .before .before .level .ensures) (s .pre .1, s .pre .0 .deep)
+begins-requires c κs = let s = c .before .before .before .before in
+    rw (c .at .ensures, c .before .before .level .ensures) (s .pre .1, s .pre .0 .deep)
 
 returns : tie.Need-returns
 unfolding sureFirst
-returns c = rw (c .before .begins .ensures, c .before .before .at .ensures, c .before .before .before .number .ensures, c .before .before .before .before .level .ensures)
+returns c = rw (
+  c .before .begins .ensures,
+  c .before .before .at .ensures,
+  c .before .before .before .number .ensures,
+  c .before .before .before .before .level .ensures,
+)
 
 pub sure-first-spec : {M : Type 1} → statement M
 sure-first-spec =

@@ -51,7 +51,8 @@ loop-again c =
     let read = c .before .before in
     let at = c .before .before .before .before .loop in (
       search-up (start .args .part .now) (start .args .d) (start .args .t) (start .pre) (at .low) (at .high) (at .low + (at .high - at .low) / 2)
-          (read .trip-at .result) (at .inv .0) (omega arith) (omega arith) (read .trip-at .ensures) (sym (c .before .precedes .ensures) ∙ c .if1 .taken),
+          (read .trip-at .result) (at .inv .0) (omega arith) (omega arith) (read .trip-at .ensures)
+          (sym (c .before .precedes .ensures) ∙ c .if1 .taken),
       omega arith,
     )
 
@@ -66,7 +67,8 @@ loop-again-2 c =
     let read = c .before .before in
     let at = c .before .before .before .before .loop in (
       search-down (start .args .part .now) (start .args .d) (start .args .t) (start .pre) (at .low) (at .high) (at .low + (at .high - at .low) / 2)
-          (read .trip-at .result) (at .inv .0) (omega arith) (omega arith) (read .trip-at .ensures) (sym (c .before .precedes .ensures) ∙ c .if1 .left),
+          (read .trip-at .result) (at .inv .0) (omega arith) (omega arith) (read .trip-at .ensures)
+          (sym (c .before .precedes .ensures) ∙ c .if1 .left),
       omega arith,
     )
 

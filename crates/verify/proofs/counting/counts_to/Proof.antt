@@ -96,7 +96,8 @@ returns-2 c =
     let part = g .part .now in
     let k = c .before .loop in
     let fit = sym (k .inv .2) ∙ each-end part (fitsTest s) (k .k) (omega arith) in
-    let all : sumOver (partitionsHolding s) (rows part) ≡ k .sum = omega (arith, k .inv .3, sum-end part (partitionsHolding s) (k .k) (omega arith)) in
+    let all : sumOver (partitionsHolding s) (rows part) ≡ k .sum = omega
+    (arith, k .inv .3, sum-end part (partitionsHolding s) (k .k) (omega arith)) in
     rw (fit, all)
 
 pub counts-to-spec : {M : Type 1} → statement M

@@ -27,7 +27,12 @@ power-requires c κs =
     let g = c .before .before .before in
     let m = scale (g .args .ruler) .m in
     let level = rw (c .before .bottom .ensures) at (c .level-of .ensures) in
-    omega (arith, deep-ruler (g .args .ruler) (g .pre .0), placed m (g .args .k) _ _ (deep-ruler (g .args .ruler) (g .pre .0)) (g .pre .1) level refl .deep)
+    omega (
+      arith,
+      deep-ruler (g .args .ruler) (g .pre .0),
+      placed m (g .args .k) _ _ (deep-ruler (g .args .ruler) (g .pre .0)) (g .pre .1) level
+          refl .deep,
+    )
 
 sub-first : tie.Need-sub-first
 sub-first c =

@@ -29,14 +29,16 @@ home-level-requires c κs =
 cell-at-requires : tie.Need-cell-at-requires
 cell-at-requires c κs =
     let g = c .before .before .before .before .before .before in
-    let level = rw (c .before .before .before .bottom .ensures, c .before .before .bottom-cell .ensures, c .before .bottom-cell2 .ensures) at (c .home-level .ensures) in
+    let level = rw (c .before .before .before .bottom .ensures, c .before .before .bottom-cell .ensures, c .before .bottom-cell2 .ensures) at
+    (c .home-level .ensures) in
     (g .pre .0, rw level (level-deep (g .args .ruler) (g .args .t) (g .pre .0) (g .pre .1)))
 
 cell-at-requires-2 : tie.Need-cell-at-requires-2
 cell-at-requires-2 c κs =
     let g = c .before .before .before .before .before .before .before in
     let k = c .before in
-    let level = rw (k .before .before .before .bottom .ensures, k .before .before .bottom-cell .ensures, k .before .bottom-cell2 .ensures) at (k .home-level .ensures) in
+    let level = rw (k .before .before .before .bottom .ensures, k .before .before .bottom-cell .ensures, k .before .bottom-cell2 .ensures) at
+    (k .home-level .ensures) in
     (g .pre .0, rw level (level-deep (g .args .ruler) (g .args .t) (g .pre .0) (g .pre .1)))
 
 slot-number-requires : tie.Need-slot-number-requires
@@ -44,7 +46,8 @@ slot-number-requires c κs =
     let g = c .before .before .before .before .before .before .before .before in
     let r = g .args .ruler in
     let k = c .before .before in
-    let level = rw (k .before .before .before .bottom .ensures, k .before .before .bottom-cell .ensures, k .before .bottom-cell2 .ensures) at (k .home-level .ensures) in
+    let level = rw (k .before .before .before .bottom .ensures, k .before .before .bottom-cell .ensures, k .before .bottom-cell2 .ensures) at
+    (k .home-level .ensures) in
     let h : c .before .before .home-level .result ≤ scale r .m = rw level (level-deep r (g .args .t) (g .pre .0) (g .pre .1)) in
     let there = place-there r (g .args .t) (g .pre .0) (g .pre .1) _ h in
     (omega (arith, deep-ruler r (g .pre .0)), omega (arith, c .before .cell-at .ensures))
@@ -56,7 +59,8 @@ returns : tie.Need-returns
 unfolding home homeAt isIn
 returns c =
     let k = c .before .before .before in
-    let level = rw (k .before .before .before .bottom .ensures, k .before .before .bottom-cell .ensures, k .before .bottom-cell2 .ensures) at (k .home-level .ensures) in
+    let level = rw (k .before .before .before .bottom .ensures, k .before .before .bottom-cell .ensures, k .before .bottom-cell2 .ensures) at
+    (k .home-level .ensures) in
     rw (c .slot-number .ensures, c .before .cell-at2 .ensures, c .before .before .cell-at .ensures, level)
 
 pub home-spec : {M : Type 1} → statement M

@@ -23,7 +23,12 @@ level-count-requires-4 c κs = search needs
 
 returns-2 : tie.Need-returns-2
 unfolding rowOf
-returns-2 c = rw (c .before .before .before .level-count .ensures, c .before .before .level-count2 .ensures, c .before .level-count3 .ensures, c .level-count4 .ensures)
+returns-2 c = rw (
+  c .before .before .before .level-count .ensures,
+  c .before .before .level-count2 .ensures,
+  c .before .level-count3 .ensures,
+  c .level-count4 .ensures,
+)
 
 pub level-row-spec : {M : Type 1} → statement M
 level-row-spec =
