@@ -20,8 +20,7 @@ use Rattle.trip.specs.declared.Trip.{Trip}
 use Rattle.layout.specs.declared.Half.{Half}
 use Rattle.layout.specs.Stored.{subdivisionOf}
 use Rattle.layout.specs.Words.{entryWords, rows, tripAt, order, partitions, partitionNumber, slot}
-use Rattle.layout.proofs.RowOrder.{Distinct}
-use Rattle.layout.proofs.Local.{slot-sorted}
+use Rattle.layout.proofs.RowOrder.{Distinct, slot-sorted}
 use Rattle.layout.proofs.Rows.{length-rows, getD-rows, rows-words}
 use Rattle.layout.proofs.Reading.{LaidFrom, slot-from, slots-rise, slots-room, slots-part}
 use Rattle.plan.specs.Plan.{firstSlot, stretch}
@@ -64,7 +63,7 @@ module _ {s : Scale} {h : Half} {ts : List Trip} {d : List ℕ} {base : ℕ} {l 
   one-turns aft j in-half e =
       let zero-more : j + 0 ≡ j = omega arith in
       in-turn (order (subdivisionOf h aft)) _
-      (rw (slots-are w j 1 in-half sure, zero-more) (rw e at (slot-sorted s h ts distinct j)))
+      (rw (slots-are w j 1 in-half sure, zero-more) (rw e at (slot-sorted s h ts j distinct)))
 
   none-turns : (aft : Bool) (j : ℕ) → j + 0 ≤ 2 * partitions (s .m) → InTurn h aft (stretchWords d l (stretch (base + j) (base + (j + 0)) sure))
   unfolding joined

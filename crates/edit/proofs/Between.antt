@@ -13,20 +13,19 @@ use Rattle.ruler.specs.Ruler.{Scale}
 use Rattle.trip.specs.declared.Trip.{Trip}
 use Rattle.layout.specs.declared.Half.{Half}
 use Rattle.layout.specs.declared.Half.the-variants.{Originals, Replicas}
-use Rattle.layout.specs.Words.{entryWords, words, order, partitions, slot, entries, Index, lengthsOf}
+use Rattle.layout.specs.Words.{entryWords, words, order, partitions, slot, entries, Index, lengthsOf, subdivisionAt}
 use Rattle.layout.specs.Words as laid
 use Rattle.layout.specs.Refusals.{tableOf}
 use Rattle.layout.specs.Walk.{slotsOfTrip}
 use Rattle.layout.proofs.Rows.{words-length}
-use Rattle.layout.proofs.RowOrder.{Distinct}
+use Rattle.layout.proofs.RowOrder.{Distinct, slot-sorted}
 use Rattle.layout.proofs.Chains.{Room}
 use Rattle.layout.proofs.Indexes.{Indexed}
 use Rattle.layout.proofs.Walk.{those, inSlot, walk-once, walk-below}
-use Rattle.layout.proofs.SlotEdits.{slot-sorted}
 use Rattle.store.specs.Slots.{Holds}
 use Rattle.store.specs.Ordered.{noTrip}
 use Rattle.store.proofs.Laid.{laid-holds, holds-laid}
-use Rattle.edit.specs.Places.{subdivisionAt, Orderly}
+use Rattle.edit.specs.Places.{Orderly}
 use Rattle.edit.specs.Halves.{arenaOf, HalfOf}
 use Rattle.edit.proofs.Halfway.{among-those, few-once, Spots, halfway, spot-among, halfway-start, halfway-end, spot-in, halfway-here}
 
@@ -89,7 +88,6 @@ module _ (s : Scale) (half : Half) (x : Index) (t : Trip) (ts : List Trip) where
       belongs = sym (among-those _ (slotsOfTrip s half t) _ (visited _ inside)) ∙ spot-among (slotsOfTrip s half t) j h
 
       pub orderly : (D A : List ℕ) → Holds D A (slotsAfter j) → Orderly D A (slotsAfter j) half (getD (slotsOfTrip s half t) j 0)
-      unfolding subdivisionAt
       orderly D A w = record {
         holds = w;
         slot-in = rw length-upTo inside;

@@ -10,20 +10,21 @@ use Rattle.lists.proofs.Upto.{length-upTo}
 use Rattle.ruler.specs.Ruler.{Scale}
 use Rattle.trip.specs.declared.Trip.{Trip}
 use Rattle.layout.specs.declared.Half.{Half}
-use Rattle.layout.specs.Words.{words, partitions, slot, entriesBefore, entries, Index, lengthsOf}
+use Rattle.layout.specs.Words.{words, partitions, slot, entriesBefore, entries, Index, lengthsOf, subdivisionAt}
 use Rattle.layout.specs.Words as laid
 use Rattle.layout.specs.Refusals.{tableOf}
 use Rattle.layout.specs.Walk.{slotsOfTrip}
 use Rattle.layout.proofs.Rows.{words-le, words-add}
 use Rattle.layout.proofs.Edited.{Addable, of-add, added-table}
 use Rattle.layout.proofs.Walk.{those, inSlot}
-use Rattle.layout.proofs.SlotEdits.{slot-sorted, slot-gets, slot-same-added, slot-longer, slot-fresh}
+use Rattle.layout.proofs.RowOrder.{slot-sorted}
+use Rattle.layout.proofs.SlotEdits.{slot-gets, slot-same-added, slot-longer, slot-fresh}
 use Rattle.layout.proofs.RoomAdded.{entries-most}
 use Rattle.store.specs.Slots.{flat, inserted, insertedIn, Holds}
 use Rattle.store.specs.Ordered.{preceding}
 use Rattle.store.proofs.Laid.{flat-upTo}
 use Rattle.store.proofs.Found.{insert-place}
-use Rattle.edit.specs.Places.{subdivisionAt, placeIn, Vacant}
+use Rattle.edit.specs.Places.{placeIn, Vacant}
 use Rattle.edit.specs.Halves.{HalfOf, Adding}
 use Rattle.edit.proofs.Halfway.{Spots, halfway-turn, halfway-most}
 use Rattle.edit.proofs.Between.{room-in, Passing, slotsAfter, spots, start, long, inside, unchanged, belongs, orderly, end}
@@ -81,7 +82,7 @@ module _ (s : Scale) (half : Half) (x : Index) (t : Trip) (dir arena : List ℕ)
     all-spots = spots s half x t (t ∷ tableOf s x) dir arena passing
 
     here-put : insertedIn spot (placeIn half spot t (grownSlots j)) t (grownSlots j) ≡ grownSlots (j + 1)
-    unfolding spot subdivisionAt
+    unfolding spot
     here-put =
         let l = slot s half (tableOf s x) spot in
         let d = subdivisionAt half spot in

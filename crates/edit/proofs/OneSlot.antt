@@ -10,13 +10,13 @@ use Rattle.lists.proofs.Halving.{sorted-of}
 use Rattle.trip.specs.declared.Trip.{Trip}
 use Rattle.layout.specs.declared.Half.{Half}
 use Rattle.layout.specs.declared.Subdivision.{Subdivision}
-use Rattle.layout.specs.Words.{entryWords, rows, order}
+use Rattle.layout.specs.Words.{entryWords, rows, order, subdivisionAt}
 use Rattle.store.specs.Slots.{Holds, Room, There}
 use Rattle.store.specs.Ordered.{preceding, noTrip}
 use Rattle.store.proofs.Slots.{holds-slots}
 use Rattle.store.proofs.Parts as parts
 use Rattle.store.proofs.Found.{place-most, found-place}
-use Rattle.edit.specs.Places.{subdivisionAt, placeIn, Orderly, Vacant, Present}
+use Rattle.edit.specs.Places.{placeIn, Orderly, Vacant, Present}
 
 -- what the search reads of the words
 pub record PartWords (dir arena : List ℕ) (slot : ℕ) : Type 0 where

@@ -6,19 +6,19 @@ use lib.ListN.{length, getD}
 use Rattle.ruler.specs.Ruler.{Scale}
 use Rattle.trip.specs.declared.Trip.{Trip}
 use Rattle.layout.specs.declared.Half.{Half}
-use Rattle.layout.specs.Words.{slot, Index}
+use Rattle.layout.specs.Words.{slot, Index, subdivisionAt}
 use Rattle.layout.specs.Words as laid
 use Rattle.layout.specs.Refusals.{tableOf}
 use Rattle.layout.specs.Calls.{without}
 use Rattle.layout.specs.Walk.{slotsOfTrip}
-use Rattle.layout.proofs.RowOrder.{Distinct}
+use Rattle.layout.proofs.RowOrder.{Distinct, slot-sorted, slot-distinct}
 use Rattle.layout.proofs.Edited.{Removable, of-remove}
 use Rattle.layout.proofs.Walk.{those}
-use Rattle.layout.proofs.SlotEdits.{slot-sorted, slot-distinct, slot-without, slot-has, slot-same-removed}
+use Rattle.layout.proofs.SlotEdits.{slot-without, slot-has, slot-same-removed}
 use Rattle.store.specs.Slots.{removed, removedIn, Holds}
 use Rattle.store.specs.Ordered.{preceding}
 use Rattle.store.proofs.Found.{remove-place}
-use Rattle.edit.specs.Places.{subdivisionAt, placeIn, Present}
+use Rattle.edit.specs.Places.{placeIn, Present}
 use Rattle.edit.specs.Halves.{HalfOf, Removing}
 use Rattle.edit.proofs.Halfway.{halfway-turn}
 use Rattle.edit.proofs.Between.{Passing, slotsAfter, spots, start, unchanged, belongs, orderly, end}
@@ -64,7 +64,7 @@ module _ (s : Scale) (half : Half) (x : Index) (t : Trip) (dir arena : List ℕ)
     turn : (D′ A′ : List ℕ) → Holds D′ A′ (removedIn (getD (slotsOfTrip s half t) j 0) (placeIn half (getD (slotsOfTrip s half t) j 0) t
         (shrunkSlots j)) (shrunkSlots j))
         → Holds D′ A′ (shrunkSlots (j + 1))
-    unfolding spot subdivisionAt
+    unfolding spot
     turn D′ A′ v =
         let l = slot s half (tableOf s x) spot in
         let d = subdivisionAt half spot in

@@ -1,21 +1,14 @@
 -- One slot of a half, as an edit finds it.
 use mathlib.Core.List.{List, [], List·Memᴰ as Mem}
-use Prim.Native.Nat.{ℕ, _+_, _*_, _%_, _≤_, _<_}
-use lib.Dec.{eqb}
+use Prim.Native.Nat.{ℕ, _+_, _*_, _≤_, _<_}
 use lib.ListN.{length, getD}
 use Rattle.lists.specs.Sifting.{InOrder}
 use Rattle.trip.specs.declared.Trip.{Trip}
 use Rattle.layout.specs.declared.Half.{Half}
-use Rattle.layout.specs.declared.Subdivision.{Subdivision}
-use Rattle.layout.specs.Stored.{subdivisionOf}
-use Rattle.layout.specs.Words.{entryWords, order}
+use Rattle.layout.specs.Words.{entryWords, order, subdivisionAt}
 use Rattle.store.specs.Passes.{mostEntries}
 use Rattle.store.specs.Slots.{flat, Holds}
 use Rattle.store.specs.Ordered.{preceding, noTrip}
-
--- the subdivision of a half's slot: "aft" where the slot's number is odd
-unfoldable pub subdivisionAt : Half → (slot : ℕ) → Subdivision
-subdivisionAt h k = subdivisionOf h (eqb (k % 2) 1)
 
 -- the place of a trip in a slot's order
 abbrev pub placeIn : Half → (slot : ℕ) → Trip → List (List Trip) → ℕ

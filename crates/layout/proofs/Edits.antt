@@ -16,8 +16,8 @@ use Rattle.trip.specs.declared.Question.{Question}
 use Rattle.trip.specs.Relationships.{related}
 use Rattle.layout.specs.declared.Half.{Half}
 use Rattle.layout.specs.declared.Subdivision.{Subdivision}
-use Rattle.layout.specs.Stored.{belongs, subdivisionOf}
-use Rattle.layout.specs.Words.{order, partitions, levelOf, placeOf, slotTrips, slot, entriesBefore, entries}
+use Rattle.layout.specs.Stored.{belongs}
+use Rattle.layout.specs.Words.{order, partitions, levelOf, placeOf, slotTrips, subdivisionAt, slot, entriesBefore, entries}
 use Rattle.layout.specs.Answers.{matches, answer}
 use Rattle.layout.specs.Calls.{without}
 use Rattle.layout.proofs.RowOrder.{OtherId, Distinct, slot-order, distinct-apart}
@@ -58,7 +58,7 @@ slotTrips-without s d L i id ts u =
 pub entries-without : (s : Scale) (h : Half) (id : ℕ) (ts : List Trip) → Distinct ts → length (entries s h (without id ts)) ≤ length (entries s h ts)
 unfolding entries entriesBefore slot without
 entries-without s h id ts u = joined-le (slot s h (without id ts)) (slot s h ts) (2 * partitions (s .m)) (λ k.
-    let w = subdivisionOf h (eqb (k % 2) 1) in
+    let w = subdivisionAt h k in
     let L = levelOf (s .m) (k / 2) in
     let i = placeOf (s .m) (k / 2) in
     rw (slotTrips-without s w L i id ts u) (keep-length (λ (t : Trip). not (eqb (t .id) id)) (slotTrips s w L i ts)))

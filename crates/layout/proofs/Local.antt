@@ -5,12 +5,12 @@ use mathlib.Core.Path.{_≡_, sym, ap, ap₂, _∙_}
 use mathlib.Core.List.{List, _++_, List·Memᴰ as Mem, List·Memᴰ·not-nil as not-nil}
 use Prim.Native.Nat.{ℕ, _+_, _-_, _*_, _%_, _≤_, _<_}
 use native.Mathlib.Omega.{arith}
-use lib.Dec.{T, eqb}
+use lib.Dec.{T}
 use lib.ListN.{length, take, drop, replicate, length-append, take-append-drop}
 use lib.Seq.{take-at, drop-at}
 use Rattle.lists.specs.Lists.{joined, upTo, padded, sumOver}
-use Rattle.lists.proofs.Members.{In, of-joined, to-joined, pairs-keep}
-use Rattle.lists.proofs.Sorting.{Sorted, unique, sorted-sort}
+use Rattle.lists.proofs.Members.{In, of-joined, to-joined}
+use Rattle.lists.proofs.Sorting.{Sorted, unique}
 use Rattle.lists.proofs.Joined.{joined-ext}
 use Rattle.lists.proofs.Sublists.{no-longer, as-long}
 use Rattle.lists.proofs.Sums.{length-joined, sum-tight}
@@ -21,11 +21,10 @@ use Rattle.trip.specs.declared.Trip.{Trip}
 use Rattle.layout.specs.declared.Half.{Half}
 use Rattle.layout.specs.declared.Half.the-variants.{Originals, Replicas}
 use Rattle.layout.specs.declared.Subdivision.{Subdivision}
-use Rattle.layout.specs.Stored.{subdivisionOf}
-use Rattle.layout.specs.Words.{entryWords, words, order, partitions, halfLength, directoryLength, slotTrips, slot, entriesBefore, entries, directoryHalf, arena, Index, lengthsOf, layout}
+use Rattle.layout.specs.Words.{entryWords, words, order, partitions, halfLength, directoryLength, subdivisionAt, slot, entriesBefore, entries, directoryHalf, arena, Index, lengthsOf, layout}
 use Rattle.layout.specs.Refusals.{partitionsHolding, tableOf}
 use Rattle.layout.proofs.Partitions.{Fits}
-use Rattle.layout.proofs.RowOrder.{Distinct, slot-order, distinct-apart}
+use Rattle.layout.proofs.RowOrder.{Distinct, slot-order, slot-sorted}
 use Rattle.layout.proofs.Slots.{of-slot, to-slot, slot-once}
 use Rattle.layout.proofs.Few.{never-eleven}
 use Rattle.layout.proofs.Rows.{words-length}
@@ -34,12 +33,9 @@ use Rattle.layout.proofs.Indexes.{Indexed, table-again, indexed}
 use Rattle.layout.proofs.Counted.{slots-sum}
 use Rattle.layout.proofs.Walk.{inSlot}
 
--- the slots of a half, and the subdivision of slot k
+-- how many slots a half has
 abbrev pub slotsOf : Scale → ℕ
 slotsOf s = 2 * partitions (s .m)
-
-abbrev pub subdivisionAt : Half → (k : ℕ) → Subdivision
-subdivisionAt h k = subdivisionOf h (eqb (k % 2) 1)
 
 -- ---- the conditions, as facts on the lists of the slots
 
@@ -57,13 +53,6 @@ pub record Proper (s : Scale) (o p : ℕ → List Trip) : Type 0 where
   pub distinct : Distinct (joined o (slotsOf s))
   pub known : (k : ℕ) → k < slotsOf s → In (p k) (joined o (slotsOf s))
   pub total : length (joined o (slotsOf s)) + length (joined p (slotsOf s)) ≡ sumOver (partitionsHolding s) (joined o (slotsOf s))
-
--- a table's slots are in order
-pub slot-sorted : (s : Scale) (h : Half) (ts : List Trip) → Distinct ts → (k : ℕ) → Sorted (order (subdivisionAt h k)) (slot s h ts k)
-unfolding slot slotTrips
-slot-sorted s h ts d k =
-    let c = subdivisionAt h k in
-    sorted-sort (slot-order c) (distinct-apart c (pairs-keep _ d))
 
 -- ---- lists that pass are the slots of the table of their originals
 
@@ -87,7 +76,7 @@ module _ (s : Scale) (fair : Fair s) (o p : ℕ → List Trip) (w : Proper s o p
 
   pub originals-are : (k : ℕ) → k < slotsOf s → o k ≡ slot s Originals (joined o (slotsOf s)) k
   originals-are k h =
-      unique (slot-order (subdivisionAt Originals k)) (w .originals .sorted k h) (slot-sorted s Originals table (w .distinct) k) (original-in k h)
+      unique (slot-order (subdivisionAt Originals k)) (w .originals .sorted k h) (slot-sorted s Originals table k (w .distinct)) (original-in k h)
       (in-original k h)
 
   -- a slot of replicas has members of the table's slot; it is no longer; and all together are as many, so none is shorter
@@ -100,13 +89,13 @@ module _ (s : Scale) (fair : Fair s) (o p : ℕ → List Trip) (w : Proper s o p
       let same : joined o n ≡ joined (slot s Originals table) n = joined-ext o (slot s Originals table) n originals-are in
       let many = ap length same ∙ length-joined (slot s Originals table) n in
       sum-tight (λ k. length (p k)) (λ k. length (slot s Replicas table k)) n
-      (λ k h. no-longer (slot-order (subdivisionAt Replicas k)) (w .replicas .sorted k h) (slot-sorted s Replicas table (w .distinct) k)
+      (λ k h. no-longer (slot-order (subdivisionAt Replicas k)) (w .replicas .sorted k h) (slot-sorted s Replicas table k (w .distinct))
       (replica-in k h))
       (omega (arith, w .total, slots-sum s table, length-joined p n))
 
   pub replicas-are : (k : ℕ) → k < slotsOf s → p k ≡ slot s Replicas (joined o (slotsOf s)) k
   replicas-are k h =
-      as-long (slot-order (subdivisionAt Replicas k)) (w .replicas .sorted k h) (slot-sorted s Replicas table (w .distinct) k) (replica-in k h)
+      as-long (slot-order (subdivisionAt Replicas k)) (w .replicas .sorted k h) (slot-sorted s Replicas table k (w .distinct)) (replica-in k h)
       (replica-long k h)
 
 -- ---- the slots of an accepted table pass
@@ -117,7 +106,7 @@ module _ (s : Scale) (ts : List Trip) (few : length ts ≤ mostTrips) (fits : (t
   slot-standing h = record {
     fits = λ k l t m. fits t (of-slot s h ts k t m .0);
     right = λ k l t m. of-slot s h ts k t m .1;
-    sorted = λ k l. slot-sorted s h ts d k;
+    sorted = λ k l. slot-sorted s h ts k d;
   }
 
   back-again : joined (slot s Originals ts) (slotsOf s) ≡ ts

@@ -3,15 +3,15 @@ use mathlib.Core.Path.{_≡_, refl, sym, ap, subst, _∙_, fun-ext}
 use mathlib.Core.Logic.{_⊎_, inl, inr}
 use mathlib.Core.Bool.{Bool, _&&_, _||_}
 use mathlib.Core.List.{List}
-use Prim.Native.Nat.{ℕ, _<_}
+use Prim.Native.Nat.{ℕ, _/_, _<_}
 use native.Mathlib.Omega.{arith}
 use native.Mathlib.Decide.{decLt}
 use lib.Dec.{T, ltb, eqb, ltb→lt, lt→ltb, eqb→eq, eqb-refl}
 use lib.ListN.{length}
 use Rattle.lists.specs.Lists.{keep, sort}
 use Rattle.lists.proofs.Tests.{of-and, to-and, of-or, or-left, or-right}
-use Rattle.lists.proofs.Members.{In, Pairs, none, more, keep-in, pairs-keep, length-sort}
-use Rattle.lists.proofs.Sorting.{Apart, StrictOrder, sort-same}
+use Rattle.lists.proofs.Members.{In, Pairs, none, more, keep-in, pairs-keep, pairs-sort, length-sort}
+use Rattle.lists.proofs.Sorting.{Apart, Sorted, StrictOrder, sort-same, sorted-sort}
 use Rattle.ruler.specs.Ruler.{Scale}
 use Rattle.trip.specs.declared.Trip.{Trip}
 use Rattle.layout.specs.declared.Half.{Half}
@@ -19,7 +19,7 @@ use Rattle.layout.specs.declared.Half.the-variants.{Originals, Replicas}
 use Rattle.layout.specs.declared.Subdivision.{Subdivision}
 use Rattle.layout.specs.declared.Subdivision.the-variants.{RAft}
 use Rattle.layout.specs.Stored.{belongs}
-use Rattle.layout.specs.Words.{order, slotTrips, slot, entriesBefore, entries, directoryHalf, arena, Lengths, layout}
+use Rattle.layout.specs.Words.{order, levelOf, placeOf, slotTrips, subdivisionAt, slot, entriesBefore, entries, directoryHalf, arena, Lengths, layout}
 use Rattle.layout.proofs.Keys.{keyOf, order-keyed}
 
 -- no id twice
@@ -102,6 +102,19 @@ slot-order d = record { asym = order-asym d; trans = order-trans d }
 pub distinct-apart : (d : Subdivision) {ts : List Trip} → Distinct ts → Apart (order d) ts
 distinct-apart d none = none
 distinct-apart d (more {x = t} h n) = more (λ u m. order-apart d t u (h u m)) (distinct-apart d n)
+
+-- every slot of a table with no id twice is in order, and has no id twice
+module _ (s : Scale) (h : Half) (ts : List Trip) (k : ℕ) (d : Distinct ts) where
+  abbrev here : Trip → Bool
+  here = belongs s (subdivisionAt h k) (levelOf (s .m) (k / 2)) (placeOf (s .m) (k / 2))
+
+  pub slot-sorted : Sorted (order (subdivisionAt h k)) (slot s h ts k)
+  unfolding slot slotTrips
+  slot-sorted = sorted-sort (slot-order (subdivisionAt h k)) (distinct-apart (subdivisionAt h k) (pairs-keep here d))
+
+  pub slot-distinct : Distinct (slot s h ts k)
+  unfolding slot slotTrips
+  slot-distinct = pairs-sort (λ x y n e. n (sym e)) (order (subdivisionAt h k)) (pairs-keep here d)
 
 module _ (s : Scale) (ts us : List Trip) (n : Distinct ts) (e : Distinct us) (f : In ts us) (g : In us ts) where
   pub slotTrips-same : (d : Subdivision) (L i : ℕ) → slotTrips s d L i ts ≡ slotTrips s d L i us

@@ -14,8 +14,8 @@ use Rattle.ruler.specs.Ruler.{Scale}
 use Rattle.trip.specs.declared.Trip.{Trip}
 use Rattle.layout.specs.declared.Half.{Half}
 use Rattle.layout.specs.declared.Subdivision.{Subdivision}
-use Rattle.layout.specs.Stored.{subdivisionOf, belongs}
-use Rattle.layout.specs.Words.{order, levelOf, placeOf, slotTrips, slot}
+use Rattle.layout.specs.Stored.{belongs}
+use Rattle.layout.specs.Words.{order, levelOf, placeOf, slotTrips, subdivisionAt, slot}
 use Rattle.layout.specs.Calls.{without}
 use Rattle.layout.proofs.RowOrder.{OtherId, Distinct, slot-order, distinct-apart}
 use Rattle.layout.proofs.Slots.{of-slot, to-slot, same-id}
@@ -24,22 +24,7 @@ use Rattle.layout.proofs.Walk.{inSlot}
 
 -- the order of slot k of a half
 abbrev pub slotOrder : Half → (k : ℕ) → Trip → Trip → Bool
-slotOrder h k = order (subdivisionOf h (eqb (k % 2) 1))
-
--- ---- what holds of every slot of a table with no id twice
-
-module _ (s : Scale) (h : Half) (ts : List Trip) (k : ℕ) (d : Distinct ts) where
-  pub slot-sorted : Sorted (slotOrder h k) (slot s h ts k)
-  unfolding slot slotTrips
-  slot-sorted =
-      let c = subdivisionOf h (eqb (k % 2) 1) in
-      sorted-sort (slot-order c) (distinct-apart c (pairs-keep (belongs s c (levelOf (s .m) (k / 2)) (placeOf (s .m) (k / 2))) d))
-
-  pub slot-distinct : Distinct (slot s h ts k)
-  unfolding slot slotTrips
-  slot-distinct =
-      let c = subdivisionOf h (eqb (k % 2) 1) in
-      pairs-sort (λ x y n e. n (sym e)) (order c) (pairs-keep (belongs s c (levelOf (s .m) (k / 2)) (placeOf (s .m) (k / 2))) d)
+slotOrder h k = order (subdivisionAt h k)
 
 -- ---- an addition
 
@@ -50,7 +35,7 @@ no-shorter false t l = omega arith
 module _ (s : Scale) (h : Half) (t : Trip) (ts : List Trip) (k : ℕ) where
   slot-add : slot s h (t ∷ ts) k ≡ cond (inSlot s h k t) (insert (slotOrder h k) t (slot s h ts k)) (slot s h ts k)
   unfolding slot
-  slot-add = slotTrips-add s (subdivisionOf h (eqb (k % 2) 1)) (levelOf (s .m) (k / 2)) (placeOf (s .m) (k / 2)) t ts
+  slot-add = slotTrips-add s (subdivisionAt h k) (levelOf (s .m) (k / 2)) (placeOf (s .m) (k / 2)) t ts
 
   -- a slot in which the trip belongs gets it in its place
   pub slot-gets : inSlot s h k t ≡ true → slot s h (t ∷ ts) k ≡ insert (slotOrder h k) t (slot s h ts k)
@@ -75,7 +60,7 @@ module _ (s : Scale) (h : Half) (t : Trip) (ts : List Trip) (k : ℕ) (d : Disti
   -- every slot loses the trip
   pub slot-without : slot s h (without (t .id) ts) k ≡ without (t .id) (slot s h ts k)
   unfolding slot
-  slot-without = slotTrips-without s (subdivisionOf h (eqb (k % 2) 1)) (levelOf (s .m) (k / 2)) (placeOf (s .m) (k / 2)) (t .id) ts d
+  slot-without = slotTrips-without s (subdivisionAt h k) (levelOf (s .m) (k / 2)) (placeOf (s .m) (k / 2)) (t .id) ts d
 
   -- a slot in which the trip belongs has it
   pub slot-has : inSlot s h k t ≡ true → Mem t (slot s h ts k)

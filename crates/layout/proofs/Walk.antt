@@ -20,7 +20,7 @@ use Rattle.trip.specs.declared.Trip.{Trip}
 use Rattle.layout.specs.declared.Half.{Half}
 use Rattle.layout.specs.declared.Half.the-variants.{Originals, Replicas}
 use Rattle.layout.specs.Stored.{within, holds, holdsTrip, isOriginal, isIn, isOf, subdivisionOf, belongs}
-use Rattle.layout.specs.Words.{partitions, partitionNumber, levelOf, placeOf, slotNumber}
+use Rattle.layout.specs.Words.{partitions, partitionNumber, levelOf, placeOf, slotNumber, subdivisionAt}
 use Rattle.layout.specs.Walk.{inHalf, visit, walk, slotsOf, slotsOfTrip}
 use Rattle.layout.proofs.Partitions.{width-step, of-within, to-within, holds-within, holds-parent}
 use Rattle.layout.proofs.Numbers.{numbered, place-lt, number-place}
@@ -351,7 +351,7 @@ module _ (m a b : ℕ) (half : Half) where
 
 -- the trip has an entry in slot k of the half
 abbrev pub inSlot : Scale → Half → (k : ℕ) → Trip → Bool
-inSlot s h k t = belongs s (subdivisionOf h (eqb (k % 2) 1)) (levelOf (s .m) (k / 2)) (placeOf (s .m) (k / 2)) t
+inSlot s h k t = belongs s (subdivisionAt h k) (levelOf (s .m) (k / 2)) (placeOf (s .m) (k / 2)) t
 
 of-subdivision : (half : Half) (o e aft : Bool) → isOf (subdivisionOf half aft) o e ≡ inHalf half o && onSide aft e
 unfolding isOf subdivisionOf

@@ -83,9 +83,13 @@ order RAft = byId
 unfoldable pub slotTrips : Scale → Subdivision → (L i : ℕ) → List Trip → List Trip
 slotTrips s d L i ts = sort (order d) (keep (belongs s d L i) ts)
 
+-- the subdivision of a half's slot k: the "aft" slots have odd numbers
+abbrev pub subdivisionAt : Half → (k : ℕ) → Subdivision
+subdivisionAt h k = subdivisionOf h (eqb (k % 2) 1)
+
 -- the entries of a half's slot k, of its first k slots, and of all of them
 unfoldable pub slot : Scale → Half → List Trip → (k : ℕ) → List Trip
-slot s h ts k = slotTrips s (subdivisionOf h (eqb (k % 2) 1)) (levelOf (s .m) (k / 2)) (placeOf (s .m) (k / 2)) ts
+slot s h ts k = slotTrips s (subdivisionAt h k) (levelOf (s .m) (k / 2)) (placeOf (s .m) (k / 2)) ts
 
 unfoldable pub entriesBefore : Scale → Half → List Trip → (k : ℕ) → List Trip
 entriesBefore s h ts k = joined (slot s h ts) k

@@ -17,14 +17,14 @@ use Rattle.ruler.proofs.Fair.{Fair}
 use Rattle.trip.specs.declared.Trip.{Trip}
 use Rattle.layout.specs.declared.Half.{Half}
 use Rattle.layout.specs.declared.Half.the-variants.{Originals, Replicas}
-use Rattle.layout.specs.Words.{order, partitions, halfLength, directoryLength, Index}
+use Rattle.layout.specs.Words.{order, partitions, halfLength, directoryLength, subdivisionAt, Index}
 use Rattle.layout.specs.Refusals.{partitionsHolding, isIndex}
 use Rattle.layout.specs.Calls.{index}
 use Rattle.layout.proofs.RulerCells.{fair-ruler, deep-ruler}
 use Rattle.layout.proofs.RowOrder.{slot-order}
 use Rattle.layout.proofs.Indexes.{of-isIndex, to-isIndex}
 use Rattle.layout.proofs.Walk.{inSlot}
-use Rattle.layout.proofs.Local.{slotsOf, subdivisionAt, Standing, Proper, Laid, originalsHalf, replicasHalf, all-fit, originals-are, local-index, index-local}
+use Rattle.layout.proofs.Local.{slotsOf, Standing, Proper, Laid, originalsHalf, replicasHalf, all-fit, originals-are, local-index, index-local}
 use Rattle.store.specs.Ids.{idsDiffer}
 use Rattle.store.proofs.Differing.{of-idsDiffer, to-idsDiffer}
 use Rattle.verify.specs.Passing.{each, some}

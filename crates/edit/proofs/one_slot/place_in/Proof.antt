@@ -1,6 +1,5 @@
 -- The part between the two words of the directory has the slot's rows, which are in order.
 use Rattle.layout.specs.Words.{entryWords}
-use Rattle.edit.specs.Places.{subdivisionAt}
 use Rattle.edit.proofs.OneSlot.{PartWords, part-words, part-ordered, part-place}
 use native.Mathlib.Omega.{arith}
 use borrow.Author.Needs.{needs}
@@ -67,14 +66,14 @@ subdivision-of-requires : tie.Need-subdivision-of-requires
 subdivision-of-requires c κs = search needs
 
 find-place-requires : tie.Need-find-place-requires
-unfolding entryWords subdivisionAt
+unfolding entryWords
 find-place-requires c κs =
     let s = c .before .before .before .before .before .before in
     part-ordered (s .args .dir .now) (s .args .arena .now) (s .pre .0) (s .args .half) (s .args .slot) (s .pre .1) (c .subdivision-of .result)
     (c .subdivision-of .ensures)
 
 returns : tie.Need-returns
-unfolding entryWords subdivisionAt
+unfolding entryWords
 returns c = λ ls o.
     let a = c .before .before .before .before .before .before .before .args in
     part-place (a .dir .now) (a .arena .now) ls (a .half) (a .slot) o (c .before .subdivision-of .result) (a .t) (c .find-place .result)
