@@ -1,3 +1,4 @@
+-- No answer of the stored calls is wrong: one statement a file.
 pub mod Part1
 pub mod Part2
 pub mod Part3

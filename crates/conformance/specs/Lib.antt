@@ -1,3 +1,4 @@
+-- Calls with the answers of an independent model, and which of them the definitions answer otherwise.
 pub mod Calls
 pub mod Wrong
 pub mod Part1

@@ -1,7 +1,7 @@
 // The bytes that the session writes: words and numbers put into a reply one after another.
 use layout::Outcome;
 use text::MOST_DIGITS;
-ghost use Prim.Native.Nat.{_+_, _*_, _≤_, _<_};
+ghost use Prim.Native.Nat.{_+_, _*_, _^_, _≤_, _<_};
 ghost use lib.ListN.{length};
 ghost use Rattle.text.specs.Decimal.{decimal};
 ghost use Rattle.dialogue.specs.Reply.{mostDigits, shortReply, idBytes, outcomeBytes, listBytes, answerBytes, badLineBytes, PutAt, Wrote};
@@ -61,7 +61,7 @@ pub fn put_outcome(reply: &mut [u8], outcome: Outcome) -> usize
 
 // The line for the ids of an accepted question.
 fn put_list(reply: &mut [u8], ids: &[u32]) -> usize
-    requires { ⌜ (shortReply + (mostDigits + 1) * length (now ids) ≤ length (now reply)) × (length (now ids) < 4294967296) ⌝ }
+    requires { ⌜ (shortReply + (mostDigits + 1) * length (now ids) ≤ length (now reply)) × (length (now ids) < 2 ^ 32) ⌝ }
     ensures { λ r. ⌜ Wrote (listBytes (now (ids .entry))) (now (reply .entry)) (now (reply .exit)) r ⌝ }
 {
     let count = put_number(reply, 0, ids.len() as u32);
@@ -71,7 +71,7 @@ fn put_list(reply: &mut [u8], ids: &[u32]) -> usize
 
 // The line for a question: its ids, or the refusal.
 pub fn put_answer(reply: &mut [u8], outcome: Outcome, ids: &[u32]) -> usize
-    requires { ⌜ (shortReply + (mostDigits + 1) * length (now ids) ≤ length (now reply)) × (length (now ids) < 4294967296) ⌝ }
+    requires { ⌜ (shortReply + (mostDigits + 1) * length (now ids) ≤ length (now reply)) × (length (now ids) < 2 ^ 32) ⌝ }
     ensures { λ r. ⌜ Wrote (answerBytes outcome (now (ids .entry))) (now (reply .entry)) (now (reply .exit)) r ⌝ }
 {
     match outcome {

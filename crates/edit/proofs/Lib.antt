@@ -1,11 +1,15 @@
-pub mod Halfway
+-- The laws of edits.
+
+-- one slot, and a half slot after slot
 pub mod OneSlot
+pub mod Spotted
+pub mod Halfway
 pub mod Between
 pub mod Grown
 pub mod Shrunk
-pub mod Spotted
+-- the tests, and the whole index
 pub mod Reading
-pub mod Lent
 pub mod Chained
-pub mod Removed
 pub mod Opening
+pub mod Removed
+pub mod Lent

@@ -1,1 +1,2 @@
+-- What each C function says, in numbers.
 pub mod Said

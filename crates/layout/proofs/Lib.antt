@@ -1,32 +1,41 @@
-pub mod Subdivisions
+-- The laws of the definitions, for any scale and any m.
+
+-- levels and partitions
 pub mod Partitions
 pub mod Numbers
-pub mod RowOrder
-pub mod Slots
 pub mod Few
-pub mod Rows
-pub mod Chains
-pub mod Tables
-pub mod Indexes
-pub mod Edits
-pub mod Reported
-pub mod Edited
-pub mod Walk
-pub mod Starred
-pub mod RowParts
-pub mod Keys
-pub mod Sides
-pub mod Apart
-pub mod Counted
-pub mod Checked
-pub mod Local
-pub mod Reading
-pub mod Viewed
 pub mod ByLevel
-pub mod Totals
 pub mod LevelWalk
 pub mod RulerCells
+-- words, rows and slots
+pub mod Rows
+pub mod RowParts
+pub mod Subdivisions
+pub mod Sides
+pub mod Keys
+pub mod RowOrder
+pub mod Slots
+pub mod Apart
 pub mod Lent
+-- the walk of a trip's slots
+pub mod Walk
+pub mod Counted
+pub mod Reported
+-- refusals, tables and indexes
+pub mod Chains
 pub mod Links
+pub mod Tables
+pub mod Indexes
+pub mod Local
+pub mod Checked
+-- an index read and viewed
+pub mod Reading
+pub mod Totals
+pub mod Viewed
+-- edits
+pub mod Edits
 pub mod SlotEdits
 pub mod RoomAdded
+pub mod Edited
+-- document 01's examples
+pub mod Starred

@@ -56,8 +56,8 @@ module _ (s : Scale) (h : Half) (ts : List Trip) where
   -- the entries before the first slot of a level, and then those of its first n partitions
   partitions-passed : (L n : ℕ) → L ≤ s .m → n ≤ 2 ^ L
       → length (entriesBefore s h ts (slotNumber L n false))
-      ≡ length (entriesBefore s h ts (slotNumber L 0 false)) +
-      (firstRuns s ts L (subdivisionOf h false) n + firstRuns s ts L (subdivisionOf h true) n)
+      ≡ length (entriesBefore s h ts (slotNumber L 0 false))
+      + (firstRuns s ts L (subdivisionOf h false) n + firstRuns s ts L (subdivisionOf h true) n)
   unfolding firstRuns joined
   partitions-passed L zero deep l = omega arith
   partitions-passed L (suc n) deep l =

@@ -1,3 +1,4 @@
+-- Document 01 as definitions, in its order.
 pub mod Stored
 pub mod Words
 pub mod Walk

@@ -1,3 +1,4 @@
+-- The laws of bounds and plans: they agree with the table of relationships, and a plan meets each match once.
 pub mod Inside
 pub mod Ranges
 pub mod Looked

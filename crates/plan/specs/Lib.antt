@@ -1,2 +1,3 @@
+-- What the contracts of bounds and plans say.
 pub mod Bounds
 pub mod Plan

@@ -1,3 +1,4 @@
+-- The laws of levels and of scales.
 pub mod Levels
 pub mod Fair
 pub mod Judging

@@ -1,1 +1,2 @@
+-- Document 01, "Ruler and cells".
 pub mod Ruler

@@ -1,2 +1,3 @@
+-- The laws of the codes of relationships.
 pub mod Codes
 pub mod Naming

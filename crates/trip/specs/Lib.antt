@@ -1,1 +1,2 @@
+-- Document 01, "Relationships".
 pub mod Relationships

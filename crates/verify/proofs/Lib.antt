@@ -1,3 +1,4 @@
+-- The laws of the check: its tests as facts, its loops, and that it passes exactly on an index.
 pub mod Places
 pub mod Passes
 pub mod Cut

@@ -1,1 +1,2 @@
+-- What the contracts inside the views say of a directory.
 pub mod Directory

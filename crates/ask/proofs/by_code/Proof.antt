@@ -46,8 +46,8 @@ returns-2 c =
     let s = scale (g .ruler) in
     let e = sym (c .before .before .before .before .before .before .before .before .before .relationship-of .ensures)
     ∙ c .before .before .before .before .before .before .before .relationship .given .1 in
-    let off : offRuler s (g .window .start) (g .window .end) ≡ true = rw
-    (← c .before .before .before .has .ensures, ← c .before .before .has2 .ensures) (c .before .if1 .taken) in
+    let off : offRuler s (g .window .start) (g .window .end) ≡ true =
+    rw (← c .before .before .before .has .ensures, ← c .before .before .has2 .ensures) (c .before .if1 .taken) in
     ends-off s (tableOf s x) (g .code) (g .window) _ (c .refused2 .ensures .1) e off (c .refused2 .ensures .0)
 
 before-requires : tie.Need-before-requires
@@ -64,8 +64,8 @@ returns-3 c =
     let s = scale (g .ruler) in
     let e = sym (c .before .before .before .before .before .before .before .before .before .before .before .relationship-of .ensures)
     ∙ c .before .before .before .before .before .before .before .before .before .relationship .given .1 in
-    let off : offRuler s (g .window .start) (g .window .end) ≡ false = rw
-    (← c .before .before .before .before .before .has .ensures, ← c .before .before .before .before .has2 .ensures)
+    let off : offRuler s (g .window .start) (g .window .end) ≡ false =
+    rw (← c .before .before .before .before .before .has .ensures, ← c .before .before .before .before .has2 .ensures)
     (c .before .before .before .if1 .left) in
     let back : backward (g .window .start) (g .window .end) ≡ true = sym (c .before .before .before2 .ensures) ∙ c .before .if2 .taken in
     ends-backward s (tableOf s x) (g .code) (g .window) _ (c .refused3 .ensures .1) e off back (c .refused3 .ensures .0)
@@ -76,8 +76,8 @@ listed-requires c κs =
     let g = c .before .before .before .before .before .before .before .before .before .before .before .before .before .before .before .before .args in
     let x = index (g .directory .now) (g .originals .now) (g .replicas .now) in
     let s = scale (g .ruler) in
-    let off : offRuler s (g .window .start) (g .window .end) ≡ false = rw
-    (← c .before .before .before .before .before .has .ensures, ← c .before .before .before .before .has2 .ensures)
+    let off : offRuler s (g .window .start) (g .window .end) ≡ false =
+    rw (← c .before .before .before .before .before .has .ensures, ← c .before .before .before .before .has2 .ensures)
     (c .before .before .before .if1 .left) in
     let back : backward (g .window .start) (g .window .end) ≡ false = sym (c .before .before .before2 .ensures) ∙ c .before .if2 .left in (
       c .before .before .before .before .before .before .before .before .before .before .before .before .before .before .before .before .pre .0,

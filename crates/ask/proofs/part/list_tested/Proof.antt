@@ -92,8 +92,10 @@ same-length c = c .before .loop .inv .1
 
 returns : tie.Need-returns Inv-loop μ-loop
 unfolding entryWords
-returns c = let q = c .before .loop in rw (← found-all (inside (c .before .before .before .before .args .bounds))
-    (c .before .before .before .before .args .part .now) (q .i) (omega arith)) (q .inv .2)
+returns c =
+    let a = c .before .before .before .before .args in
+    let q = c .before .loop in
+    rw (← found-all (inside (a .bounds)) (a .part .now) (q .i) (omega arith)) (q .inv .2)
 
 pub list-tested-spec : {M : Type 1} → statement M
 list-tested-spec =

@@ -81,8 +81,10 @@ loop-again c =
     (omega arith, q .inv .1, omega arith)
 
 returns : tie.Need-returns Inv-loop μ-loop
-returns c = let q = c .before .loop in let e : q .up ≡ c .before .before .before .before .before .before .before .args .plan .low .0 +
-    1 = omega arith in rw e at (q .inv .2)
+returns c =
+    let q = c .before .loop in
+    let e : q .up ≡ c .before .before .before .before .before .before .before .args .plan .low .0 + 1 = omega arith in
+    rw e at (q .inv .2)
 
 pub count-levels-spec : {M : Type 1} → statement M
 count-levels-spec =

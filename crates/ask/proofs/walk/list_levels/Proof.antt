@@ -112,8 +112,10 @@ same-length : tie.Need-same-length Inv-loop μ-loop
 same-length c = c .before .loop .inv .2
 
 returns : tie.Need-returns Inv-loop μ-loop
-returns c = let q = c .before .loop in let e : q .up ≡ c .before .before .before .before .before .before .before .before .args .plan .low .0 +
-    1 = omega arith in rw e at (q .inv .3)
+returns c =
+    let q = c .before .loop in
+    let e : q .up ≡ c .before .before .before .before .before .before .before .before .args .plan .low .0 + 1 = omega arith in
+    rw e at (q .inv .3)
 
 pub list-levels-spec : {M : Type 1} → statement M
 list-levels-spec =
