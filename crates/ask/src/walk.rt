@@ -50,34 +50,13 @@ fn list_level(
         ⌜ Listed (levelMatches (inside bounds) (now (directory .entry)) (now (originals .entry)) (now (replicas .entry)) level)
         (now (out .entry)) (now (out .exit)) r ⌝ }
 {
-    let a = list_partition(
-        Half::Originals,
-        bounds,
-        level.first,
-        directory,
-        originals,
-        out,
-        0,
-    );
+    let first = level.first;
+    let last = level.last;
+    let carried = level.replicas;
+    let a = list_partition(Half::Originals, bounds, first, directory, originals, out, 0);
     let b = list_stretch(bounds, level.between, directory, originals, out, a);
-    let c = list_partition(
-        Half::Originals,
-        bounds,
-        level.last,
-        directory,
-        originals,
-        out,
-        b,
-    );
-    list_partition(
-        Half::Replicas,
-        bounds,
-        level.replicas,
-        directory,
-        replicas,
-        out,
-        c,
-    )
+    let c = list_partition(Half::Originals, bounds, last, directory, originals, out, b);
+    list_partition(Half::Replicas, bounds, carried, directory, replicas, out, c)
 }
 
 // How many entries that the plan looks at match.

@@ -14,7 +14,7 @@ use Rattle.ask.proofs.walk.list_level.Tie as tie
 list-partition-requires : tie.Need-list-partition-requires
 unfolding levelMatches
 list-partition-requires c κs =
-    let s = c .before .before .before .before .before in
+    let s = c .before .before .before .before .before .before .before .before in
     let g = s .args in
     let of : List ℕ → Stretch → List Trip = stretchMatches (inside (g .bounds)) (g .directory .now) in
     let w = of (g .originals .now) (g .level .first) in
@@ -26,7 +26,7 @@ list-partition-requires c κs =
 list-stretch-requires : tie.Need-list-stretch-requires
 unfolding levelMatches
 list-stretch-requires c κs =
-    let s = c .before .before .before .before .before .before .before .before .before in
+    let s = c .before .before .before .before .before .before .before .before .before .before .before .before in
     let g = s .args in
     let of : List ℕ → Stretch → List Trip = stretchMatches (inside (g .bounds)) (g .directory .now) in
     let w = of (g .originals .now) (g .level .first) in
@@ -39,7 +39,7 @@ list-stretch-requires c κs =
 list-partition-requires-2 : tie.Need-list-partition-requires-2
 unfolding levelMatches
 list-partition-requires-2 c κs =
-    let s = c .before .before .before .before .before .before .before .before .before .before .before .before .before in
+    let s = c .before .before .before .before .before .before .before .before .before .before .before .before .before .before .before .before in
     let g = s .args in
     let of : List ℕ → Stretch → List Trip = stretchMatches (inside (g .bounds)) (g .directory .now) in
     let w = of (g .originals .now) (g .level .first) in
@@ -53,7 +53,7 @@ list-partition-requires-2 c κs =
 list-partition-requires-3 : tie.Need-list-partition-requires-3
 unfolding levelMatches
 list-partition-requires-3 c κs =
-    let s = c .before .before .before .before .before .before .before .before .before .before .before .before .before .before .before .before .before
+    let s = c .before .before .before .before .before .before .before .before .before .before .before .before .before .before .before .before .before .before .before .before
     in
     let g = s .args in
     let of : List ℕ → Stretch → List Trip = stretchMatches (inside (g .bounds)) (g .directory .now) in
@@ -73,7 +73,7 @@ same-length c = search needs
 returns : tie.Need-returns
 unfolding levelMatches
 returns c =
-    let s = c .before .before .before .before .before .before .before .before .before .before .before .before .before .before .before .before .before .before .before .before
+    let s = c .before .before .before .before .before .before .before .before .before .before .before .before .before .before .before .before .before .before .before .before .before .before .before
     in
     let g = s .args in
     let of : List ℕ → Stretch → List Trip = stretchMatches (inside (g .bounds)) (g .directory .now) in
