@@ -10,6 +10,17 @@ use crate::model::index::{Index, Reply};
 use crate::model::trip::Trip;
 use crate::model::view::{census, run};
 
+/// The numbers that each call can answer. Refusal 11 can't be met.
+pub const NUMBERS: [(&str, &[u32]); 7] = [
+    ("build", &[0, 1, 2, 3, 4, 5, 6, 7]),
+    ("check", &[0, 1, 3, 8]),
+    ("add", &[0, 1, 2, 3, 4, 5, 6, 7, 8]),
+    ("remove", &[0, 1, 3, 8, 10]),
+    ("ask", &[0, 1, 3, 4, 5, 7, 8, 9]),
+    ("run", &[0, 1, 3, 8, 12]),
+    ("census", &[0, 1, 3, 8]),
+];
+
 /// The words that each buffer of a call may have at the test port.
 const MOST_TABLE: usize = 12_300;
 const MOST_DIRECTORY: usize = 8_200;

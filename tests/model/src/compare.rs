@@ -2,12 +2,14 @@
 
 use crate::call::Call;
 use crate::faults::with_fault;
+use crate::generate::pieces::cut_into_pieces;
 use crate::generate::sessions::session_input;
-use crate::generate::{bad_probe_line, Calls};
+use crate::generate::{bad_probe_line, Calls, Size, FULL, SMALL};
 use crate::options::Options;
 use crate::program::{answers_of, end_of, run_session, start};
 use crate::random::Random;
 use crate::session::session;
+use crate::tally::Tally;
 use std::io::{self, BufWriter, Write};
 use std::thread;
 use std::time::Duration;
@@ -18,8 +20,29 @@ const SHOWN: usize = 5;
 const SHOWN_TEXT: usize = 3_000;
 
 pub fn compare(probe: &str, program: &str, seed: u64, many: usize, options: &Options) -> io::Result<bool> {
-    let calls = if probe == "-" { Score::default() } else { compare_calls(probe, seed, many, options)? };
+    let calls = if probe == "-" { Score::default() } else { compare_calls(probe, seed, many, options.size, options)? };
     let sessions = if program == "-" { Score::default() } else { compare_sessions(program, seed, options)? };
+    Ok(closed(&calls, &sessions))
+}
+
+/// The whole trial of both programs: small calls, one in twenty as many large ones, and sessions. Each call must have
+/// met each number that it can answer.
+pub fn agree(probe: &str, program: &str, seed: u64, many: usize, options: &Options) -> io::Result<bool> {
+    let mut calls = compare_calls(probe, seed, many, SMALL, options)?;
+    calls.join(compare_calls(probe, seed + 1, many / LARGE_ONES, FULL, options)?);
+    let sessions = compare_sessions(program, seed, options)?;
+    calls.tally.print();
+    let missing = calls.tally.missing();
+    for text in &missing {
+        println!("{}", text);
+    }
+    Ok(closed(&calls, &sessions) && missing.is_empty())
+}
+
+/// One large call for so many small ones.
+const LARGE_ONES: usize = 20;
+
+fn closed(calls: &Score, sessions: &Score) -> bool {
     println!(
         "agreed: {} of {} calls, {} of {} sessions",
         calls.agreed,
@@ -27,18 +50,25 @@ pub fn compare(probe: &str, program: &str, seed: u64, many: usize, options: &Opt
         sessions.agreed,
         sessions.all()
     );
-    Ok(calls.differed == 0 && sessions.differed == 0)
+    calls.differed == 0 && sessions.differed == 0
 }
 
 #[derive(Default)]
 struct Score {
     agreed: usize,
     differed: usize,
+    tally: Tally,
 }
 
 impl Score {
     fn all(&self) -> usize {
         self.agreed + self.differed
+    }
+
+    fn join(&mut self, other: Score) {
+        self.agreed += other.agreed;
+        self.differed += other.differed;
+        self.tally.join(other.tally);
     }
 
     /// Shows the first few differences.
@@ -92,9 +122,9 @@ enum ProbeLine {
 }
 
 impl Lines {
-    fn new(seed: u64, many: usize, options: &Options) -> Lines {
+    fn new(seed: u64, many: usize, size: Size, options: &Options) -> Lines {
         Lines {
-            calls: Calls::new(seed, options.size),
+            calls: Calls::new(seed, size),
             random: Random::of(seed, 1),
             bad_lines: options.bad_lines,
             left: many,
@@ -118,10 +148,10 @@ impl Iterator for Lines {
     }
 }
 
-fn compare_calls(command: &str, seed: u64, many: usize, options: &Options) -> io::Result<Score> {
+fn compare_calls(command: &str, seed: u64, many: usize, size: Size, options: &Options) -> io::Result<Score> {
     let mut child = start(command)?;
     let input = child.stdin.take();
-    let sent = Lines::new(seed, many, options);
+    let sent = Lines::new(seed, many, size, options);
     // The writer must not wait for answers, nor the reader for the writer: else both could stand still.
     // It is not waited for either, as a program that hangs may never read on.
     thread::spawn(move || {
@@ -132,9 +162,13 @@ fn compare_calls(command: &str, seed: u64, many: usize, options: &Options) -> io
     });
     let answers = answers_of(&mut child);
     let mut score = Score::default();
-    for (k, line) in Lines::new(seed, many, options).enumerate() {
+    for (k, line) in Lines::new(seed, many, size, options).enumerate() {
         let (input, expected) = match line {
-            ProbeLine::Good(call) => (call.line(), with_fault(options.fault, || call.answer())),
+            ProbeLine::Good(call) => {
+                let answer = with_fault(options.fault, || call.answer());
+                score.tally.count(&call, &answer);
+                (call.line(), answer)
+            }
             ProbeLine::Bad(text) => (text, "bad line".to_string()),
         };
         let given = match answers.recv_timeout(Duration::from_secs(options.wait)) {
@@ -174,8 +208,9 @@ fn compare_sessions(command: &str, seed: u64, options: &Options) -> io::Result<S
     for k in 0..options.sessions {
         let input = session_input(seed, k);
         let expected = with_fault(options.fault, || session(&input));
-        let given = run_session(command, &input, options.wait)?;
-        let name = format!("session {} of seed {}", k, seed);
+        let pieces = cut_into_pieces(seed, k, &input);
+        let given = run_session(command, &pieces, options.wait)?;
+        let name = format!("session {} of seed {}, in {} pieces", k, seed, pieces.len());
         score.count(&name, &escaped(&input), &escaped(&expected), &escaped(&given));
     }
     Ok(score)

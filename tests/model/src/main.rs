@@ -10,6 +10,7 @@ mod program;
 mod random;
 mod selftest;
 mod session;
+mod tally;
 mod trials;
 mod vectors;
 
@@ -17,14 +18,16 @@ use options::Options;
 use std::io::{self, BufRead, Read, Write};
 use std::process::exit;
 
-const USAGE: &str = "model vectors SEED N [--small]
-    prints N calls, each followed by a line with the expected answer
+const USAGE: &str = "model vectors SEED N [--small] [--each K]
+    prints N calls, each followed by a line with the expected answer; at most K of one call with one number
 model calls OUT_IN OUT_EXPECTED SEED N [--small]
     the same in two files: the calls, and the expected answers
 model sessions DIR SEED N
     writes session inputs DIR/k.in and expected outputs DIR/k.out, k from 0
 model compare PROBE SESSION SEED N [--small] [--sessions K] [--wait SECONDS] [--bad-lines]
     runs both programs and compares all they answer; - in place of a program leaves it out
+model agree PROBE SESSION SEED N [--sessions K] [--wait SECONDS] [--bad-lines]
+    the same with N small calls and N / 20 large ones; prints how often each call had each number, and fails where one never came
 model selftest
     tries the model itself
 model faults SEED N [--small]
@@ -51,6 +54,9 @@ fn main() {
         }
         ["compare", probe, session, seed, many] => {
             compare::compare(probe, session, number(seed), number(many) as usize, &options)
+        }
+        ["agree", probe, session, seed, many] => {
+            compare::agree(probe, session, number(seed), number(many) as usize, &options)
         }
         ["selftest"] => Ok(selftest::selftest()),
         ["faults", seed, many] => Ok(trials::faults(number(seed), number(many) as usize, &options)),

@@ -12,12 +12,14 @@ pub struct Options {
     /// How long one answer of a program may take, in seconds.
     pub wait: u64,
     pub bad_lines: bool,
+    /// The most vectors of one call with one number.
+    pub each: usize,
 }
 
 impl Options {
     pub fn read() -> Result<Options, String> {
         let mut options =
-            Options { words: Vec::new(), size: FULL, fault: None, sessions: 200, wait: 300, bad_lines: false };
+            Options { words: Vec::new(), size: FULL, fault: None, sessions: 200, wait: 300, bad_lines: false, each: usize::MAX };
         let mut rest = env::args().skip(1);
         while let Some(word) = rest.next() {
             match word.as_str() {
@@ -25,6 +27,7 @@ impl Options {
                 "--bad-lines" => options.bad_lines = true,
                 "--fault" => options.fault = Some(fault(rest.next())?),
                 "--sessions" => options.sessions = number(rest.next())? as usize,
+                "--each" => options.each = number(rest.next())? as usize,
                 "--wait" => options.wait = number(rest.next())?,
                 other if other.starts_with("--") => return Err(format!("no such option: {}", other)),
                 _ => options.words.push(word),

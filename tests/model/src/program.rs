@@ -61,16 +61,26 @@ pub fn end_of(child: &mut Child, answers: &Receiver<String>, wait: u64) -> io::R
     Ok(String::new())
 }
 
-/// All that one session writes. A program that is ended by a signal, or by the time limit, has that added,
-/// as it then agrees with nothing.
-pub fn run_session(command: &str, input: &[u8], wait: u64) -> io::Result<Vec<u8>> {
+/// So long a program has to read one piece before it is sent the next.
+const PAUSE: Duration = Duration::from_micros(500);
+
+/// All that one session writes, with its input sent in pieces. A program that is ended by a signal, or by the time limit,
+/// has that added, as it then agrees with nothing.
+pub fn run_session(command: &str, pieces: &[Vec<u8>], wait: u64) -> io::Result<Vec<u8>> {
     let mut child = start(command)?;
-    let bytes = input.to_vec();
+    let pieces = pieces.to_vec();
     let stdin = child.stdin.take();
     thread::spawn(move || {
         if let Some(mut stdin) = stdin {
-            // A session that has ended leaves the rest unread: that is as it should be.
-            let _ = stdin.write_all(&bytes);
+            for piece in &pieces {
+                // A session that has ended leaves the rest unread: that is as it should be.
+                if stdin.write_all(piece).is_err() {
+                    break;
+                }
+                if pieces.len() > 1 {
+                    thread::sleep(PAUSE);
+                }
+            }
         }
     });
     let (sender, receiver) = channel();

@@ -5,25 +5,10 @@ use crate::generate::sessions::session_input;
 use crate::generate::Calls;
 use crate::options::Options;
 use crate::session::session;
-use std::collections::BTreeMap;
-
-/// Calls by name and number of the answer.
-pub type Tally = BTreeMap<(String, String), usize>;
-
-pub fn tally_of(calls: Calls, many: usize) -> Tally {
-    let mut tally = Tally::new();
-    for call in calls.take(many) {
-        let answer = call.answer();
-        let number = answer.split(' ').next().unwrap_or("").to_string();
-        *tally.entry((call.name().to_string(), number)).or_insert(0) += 1;
-    }
-    tally
-}
+use crate::tally::tally_of;
 
 pub fn tally(seed: u64, many: usize, options: &Options) -> bool {
-    for ((name, number), count) in tally_of(Calls::new(seed, options.size), many) {
-        println!("{} answered {}: {}", name, number, count);
-    }
+    tally_of(Calls::new(seed, options.size), many).print();
     true
 }
 

@@ -5,6 +5,7 @@ use crate::generate::sessions::session_input;
 use crate::generate::Calls;
 use crate::options::Options;
 use crate::session::session;
+use crate::tally::Tally;
 use std::fs::{create_dir_all, write, File};
 use std::io::{self, BufWriter, Write};
 use std::path::Path;
@@ -12,9 +13,18 @@ use std::path::Path;
 pub fn print(seed: u64, many: usize, options: &Options) -> io::Result<bool> {
     let output = io::stdout();
     let mut output = BufWriter::new(output.lock());
-    for call in Calls::new(seed, options.size).take(many) {
+    let mut tally = Tally::default();
+    let mut left = many;
+    for call in Calls::new(seed, options.size) {
+        if left == 0 {
+            break;
+        }
         let expected = with_fault(options.fault, || call.answer());
-        writeln!(output, "{}\n{}", call.line(), expected)?;
+        if tally.of_answer(&call, &expected) < options.each {
+            tally.count(&call, &expected);
+            left -= 1;
+            writeln!(output, "{}\n{}", call.line(), expected)?;
+        }
     }
     output.flush()?;
     Ok(true)

@@ -9,6 +9,7 @@ mod damaged;
 mod edits;
 mod lines;
 mod made;
+pub mod pieces;
 mod questions;
 mod rulers;
 mod rows;

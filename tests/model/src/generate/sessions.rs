@@ -9,6 +9,7 @@ use crate::random::Random;
 pub const EXAMPLE: &[u8] = b"D 6 4\nT 7 21 38\nT 3 20 20\nT 9 0 63\nT 4 39 40\n\
 Q 13 22 23\nQ 13 38 39\nQ 5 10 20\nX 3\nQ 13 0 63\nT 5 40 39\n";
 
+/// Longer than any part of the input that a program is likely to read at once.
 const LONG: usize = 70_000;
 
 /// The first round goes through every kind of line that ends a session, and through the other fixed ones.
@@ -50,6 +51,8 @@ pub fn fixed_input(random: &mut Random, kind: usize) -> Option<Vec<u8>> {
     match left {
         0 => Some(full_session(random, false)),
         1 => Some(full_session(random, true)),
+        2 => Some(long_session(random, true)),
+        3 => Some(long_session(random, false)),
         _ => None,
     }
 }
@@ -202,6 +205,31 @@ fn good_session(random: &mut Random, most: usize, last_newline: bool) -> Vec<u8>
         }
     }
     if !last_newline {
+        input.pop();
+    }
+    input
+}
+
+/// A day of good lines that no read has at once; with a bad line in its last part, or without the last newline.
+fn long_session(random: &mut Random, bad_line: bool) -> Vec<u8> {
+    let (w, m) = (12, random.between(0, 4));
+    let mut input = Vec::new();
+    push_line(random, &mut input, "D", &[w, m]);
+    while input.len() < LONG {
+        let id = random.below(24) as u32;
+        let (start, end) = window(random, w, m, &[]);
+        match random.below(4) {
+            0 | 1 => push_line(random, &mut input, "T", &[id, start, end]),
+            2 => push_line(random, &mut input, "X", &[id]),
+            _ => {
+                let code = random.between(0, 13);
+                push_line(random, &mut input, "Q", &[code, start, end]);
+            }
+        }
+    }
+    if bad_line {
+        input.extend(b"T 1 2\nQ 13 0 1\n");
+    } else {
         input.pop();
     }
     input

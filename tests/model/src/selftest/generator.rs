@@ -2,21 +2,10 @@
 //! answer that there is.
 
 use super::report::Report;
-use crate::call::{probe_answer, Call};
+use crate::call::{probe_answer, Call, NUMBERS};
 use crate::generate::{bad_probe_line, fits, Calls, FULL, SMALL};
 use crate::random::Random;
-use crate::trials::tally_of;
-
-/// The numbers that each call can answer. Refusal 11 can't be met.
-const ANSWERS: [(&str, &[u32]); 7] = [
-    ("build", &[0, 1, 2, 3, 4, 5, 6, 7]),
-    ("check", &[0, 1, 3, 8]),
-    ("add", &[0, 1, 2, 3, 4, 5, 6, 7, 8]),
-    ("remove", &[0, 1, 3, 8, 10]),
-    ("ask", &[0, 1, 3, 4, 5, 7, 8, 9]),
-    ("run", &[0, 1, 3, 8, 12]),
-    ("census", &[0, 1, 3, 8]),
-];
+use crate::tally::tally_of;
 
 pub fn generator(report: &mut Report) {
     let mut random = Random::new(2);
@@ -32,10 +21,10 @@ pub fn generator(report: &mut Report) {
         let twice: Vec<Call> = Calls::new(22, size).take(300).collect();
         report.expect(Calls::new(22, size).take(300).eq(twice), "a seed gives the same calls again");
         let tally = tally_of(Calls::new(23, size), 4_000);
-        for (name, numbers) in &ANSWERS {
+        for (name, numbers) in &NUMBERS {
             for number in *numbers {
                 // 2 of an addition needs 4,096 trips.
-                let reached = tally.contains_key(&(name.to_string(), number.to_string()));
+                let reached = tally.has(name, *number);
                 let too_big = !size.big && *name == "add" && *number == 2;
                 report.expect(reached || too_big, &format!("{} answers {}", name, number));
             }
