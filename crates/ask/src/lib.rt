@@ -1,9 +1,9 @@
 // Questions on the words of an index: the ids of the trips to which a window stands in a named relationship.
-pub mod cut;
-pub mod part;
-pub mod partition;
-pub mod stretch;
-pub mod walk;
+mod cut;
+mod part;
+mod partition;
+mod stretch;
+mod walk;
 
 use layout::Outcome;
 use layout::Refusal;

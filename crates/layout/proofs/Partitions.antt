@@ -59,7 +59,7 @@ between m L i j k a b h ij jk s t =
 pub holds-within : (m L i a b : ℕ) → T (holds m L i a b) → T (within m L i a b)
 unfolding holds
 holds-within m zero i a b t = t
-holds-within m (suc L) i a b t = of-and (within m (suc L) i a b) (not (within m L (i / 2) a b)) t .0
+holds-within m (suc L) i a b t = of-and (within m (suc L) i a b) _ t .0
 
 pub holds-parent : (m L i a b : ℕ) → T (holds m (suc L) i a b) → T (within m L (i / 2) a b) → ⊥
 unfolding holds

@@ -3,7 +3,7 @@ pub mod counting;
 pub mod directory;
 pub mod entry;
 pub mod filling;
-pub mod gap;
+mod gap;
 pub mod ids;
 pub mod ordering;
 pub mod places;
