@@ -1,31 +1,69 @@
 /* The exported library from C: a small evening on a ruler of 2^18 seconds, with the trip that leaves at 23:40 and arrives at 25:10. */
 #include <stdio.h>
+#include <stdlib.h>
 
 #include "kheyambo.h"
 
-enum { W = 18, M = 10, DIRECTORY = 8190, ROOM = 16, REPLICAS = 128, ANSWERS = 8, G_OVERLAPS = 13 };
-
-enum { HOUR = 3600, MINUTE = 60 };
+enum { W = 18, M = 10, TRIPS = 16, ANSWERS = 8, HOUR = 3600, MINUTE = 60 };
 
 #define AT(hours, minutes) ((hours) * HOUR + (minutes) * MINUTE)
+#define TABLE(rows) rows, sizeof(rows) / sizeof(rows[0])
 
-static uint32_t directory[DIRECTORY];
-static uint32_t originals[ROOM * KHEYAMBO_ENTRY_WORDS];
-static uint32_t replicas[REPLICAS * KHEYAMBO_ENTRY_WORDS];
+/* The words of the index, as many as the header says that such a ruler and so many trips can need. */
+typedef struct {
+    uint32_t *directory, *originals, *replicas;
+    size_t directory_words, originals_words, replicas_words;
+} words;
 
-#define WORDS(list) list, sizeof(list) / sizeof(list[0])
-#define INDEX WORDS(directory), WORDS(originals), WORDS(replicas)
+#define INDEX(x) x.directory, x.directory_words, x.originals, x.originals_words, x.replicas, x.replicas_words
+
+static words lent(void) {
+    words x;
+    x.directory_words = kheyambo_directory_words(M);
+    x.originals_words = kheyambo_originals_words(TRIPS);
+    x.replicas_words = kheyambo_replicas_words(M, TRIPS);
+    x.directory = calloc(x.directory_words, sizeof(uint32_t));
+    x.originals = calloc(x.originals_words, sizeof(uint32_t));
+    x.replicas = calloc(x.replicas_words, sizeof(uint32_t));
+    if (!x.directory || !x.originals || !x.replicas) exit(2);
+    return x;
+}
 
 static void said(const char *call, kheyambo_said s) {
     printf("%s: %u, detail %u\n", call, s.number, s.detail);
 }
 
 /* The trips that are under way at some second of a window. */
-static void under_way(uint32_t start, uint32_t end) {
+static void under_way(words x, uint32_t start, uint32_t end) {
     uint32_t ids[ANSWERS];
-    kheyambo_told told = kheyambo_ask(W, M, G_OVERLAPS, start, end, INDEX, WORDS(ids));
+    kheyambo_told told = kheyambo_ask(W, M, KHEYAMBO_G_OVERLAPS, start, end, INDEX(x), ids, ANSWERS);
     printf("under way from %u to %u: %u, %u trips:", start, end, told.number, told.count);
     for (uint32_t i = 0; i < told.count; i++) printf(" %u", ids[i]);
+    printf("\n");
+}
+
+/* An answer list that is too short: nothing is written, and the detail says how long it has to be. */
+static void too_short(words x) {
+    uint32_t one[1] = {7};
+    kheyambo_told told = kheyambo_ask(W, M, KHEYAMBO_G_OVERLAPS, AT(25, 5), AT(25, 10), INDEX(x), one, 1);
+    printf("a list of one word: %u, detail %u, count %u, the word is %u\n", told.number, told.detail, told.count, one[0]);
+}
+
+static void census(words x, const char *name) {
+    kheyambo_counts counts;
+    said(name, kheyambo_census(W, M, INDEX(x), &counts));
+    for (int level = 0; level <= M; level++) {
+        uint32_t *row = counts[level];
+        if (row[KHEYAMBO_O_IN] + row[KHEYAMBO_O_AFT] + row[KHEYAMBO_R_IN] + row[KHEYAMBO_R_AFT] == 0) continue;
+        printf("level %2d: %u %u %u %u\n", level, row[KHEYAMBO_O_IN], row[KHEYAMBO_O_AFT], row[KHEYAMBO_R_IN], row[KHEYAMBO_R_AFT]);
+    }
+}
+
+/* A level-10 partition is 256 seconds: the trips that start in one and end after it. */
+static void run(words x, uint32_t level, uint32_t at) {
+    kheyambo_shown shown = kheyambo_run(W, M, level, at >> (W - M), KHEYAMBO_O_AFT, INDEX(x));
+    printf("run: %u, arena %u, from word %u, %u words:", shown.number, shown.arena, shown.offset, shown.length);
+    for (uint32_t i = 0; i < shown.length; i++) printf(" %u", x.originals[shown.offset + i]);
     printf("\n");
 }
 
@@ -35,30 +73,30 @@ int main(void) {
         117, AT(23, 40), AT(25, 10), /* the night trip */
         204, AT(24, 55), AT(25, 40), /* the last connection */
     };
-    kheyambo_counts counts;
-    kheyambo_shown run;
+    words x = lent();
 
-    said("build", kheyambo_build(W, M, WORDS(table), INDEX));
-    under_way(AT(25, 5), AT(25, 10));
-    under_way(AT(1, 5), AT(1, 10));
-    said("a backward trip", kheyambo_add(W, M, 118, AT(23, 40), AT(1, 10), INDEX));
-    said("one trip more", kheyambo_add(W, M, 118, AT(23, 55), AT(25, 20), INDEX));
-    under_way(AT(25, 5), AT(25, 10));
-    said("trip 117 out", kheyambo_remove(W, M, 117, INDEX));
-    said("trip 117 out again", kheyambo_remove(W, M, 117, INDEX));
-    said("check", kheyambo_check(W, M, INDEX));
+    said("build", kheyambo_build(W, M, TABLE(table), INDEX(x)));
+    under_way(x, AT(25, 5), AT(25, 10));
+    under_way(x, AT(1, 5), AT(1, 10));
+    said("a backward trip", kheyambo_add(W, M, 118, AT(23, 40), AT(1, 10), INDEX(x)));
+    said("one trip more", kheyambo_add(W, M, 118, AT(23, 55), AT(25, 20), INDEX(x)));
+    under_way(x, AT(25, 5), AT(25, 10));
+    too_short(x);
+    under_way(x, AT(1, 10), AT(1, 5));
+    said("trip 117 out", kheyambo_remove(W, M, 117, INDEX(x)));
+    said("trip 117 out again", kheyambo_remove(W, M, 117, INDEX(x)));
+    said("check", kheyambo_check(W, M, INDEX(x)));
+    census(x, "census");
+    run(x, M, AT(22, 50));
+    run(x, M + 1, AT(22, 50));
 
-    said("census", kheyambo_census(W, M, INDEX, &counts));
-    for (int level = 0; level <= M; level++)
-        printf("level %2d: %u %u %u %u\n", level, counts[level][KHEYAMBO_O_IN], counts[level][KHEYAMBO_O_AFT],
-               counts[level][KHEYAMBO_R_IN], counts[level][KHEYAMBO_R_AFT]);
-
-    /* a level-10 partition is 256 seconds; trip 101 starts in one and ends after it */
-    run = kheyambo_run(W, M, M, AT(22, 50) >> (W - M), KHEYAMBO_O_AFT, INDEX);
-    printf("run: %u, arena %u, from word %u, %u words:", run.number, run.arena, run.offset, run.length);
-    for (uint32_t i = 0; i < run.length; i++) printf(" %u", originals[run.offset + i]);
-    printf("\n");
-    directory[0] = 1;
-    said("a damaged word", kheyambo_check(W, M, INDEX));
+    x.directory[0] = 1;
+    said("a damaged word", kheyambo_check(W, M, INDEX(x)));
+    under_way(x, AT(25, 5), AT(25, 10));
+    census(x, "census of it");
+    run(x, M, AT(22, 50));
+    free(x.directory);
+    free(x.originals);
+    free(x.replicas);
     return 0;
 }

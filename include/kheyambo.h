@@ -1,10 +1,21 @@
 /* Kheyambo: a proved index over the running times of trips. The functions of the exported library.
 
-   Preconditions: every pointer is valid for its length in 32-bit words, and no buffer that is written overlaps another. There are no others:
-   each function looks at its own input and refuses with a number, and a refused call changes no word. What each number means is in
+   Times are seconds of the service day and may pass 24:00:00. A ruler is two numbers: w, and m for the index's deepest level; it has the
+   times 0 to 2^w - 1. w = 18 and m = 10 reach 72:49:03.
+
+   What you promise. Every pointer is valid for its length in 32-bit words, and no buffer that is written overlaps another. Nothing else:
+   each function looks at its own input, on words of every kind, and refuses with a number. The words of an index may have come from anywhere.
+
+   What a refused call leaves. Every word of the directory, the arenas and the answer list as it was, and every count 0. One buffer is written all
+   the same: a refused kheyambo_census fills the lent counts with zeros, as they are what it answers. What to do about each number is in
    docs/REFUSALS.md.
 
-   A pointer is followed by its length in words. Times are seconds of the service day and may pass 24:00:00. */
+   Threads. The functions share nothing and keep nothing: no globals, no heap, no locks. Any number may run at once as long as the buffers
+   that a call writes are no other call's; calls that only read (check, ask, census, run) may share an index.
+
+   Stack. At most 20 KiB a call: every call sorts a copy of the ids.
+
+   A pointer is followed by its length in words. */
 #ifndef KHEYAMBO_H
 #define KHEYAMBO_H
 
@@ -15,7 +26,70 @@
 extern "C" {
 #endif
 
-/* The number of refusal, or 0, and its detail. */
+/* ---- Limits */
+
+enum {
+    KHEYAMBO_WIDEST = 24,          /* w is 1 to 24 */
+    KHEYAMBO_DEEPEST = 10,         /* m is 0 to 10, and at most w */
+    KHEYAMBO_MOST_TRIPS = 4096,    /* the trips of an index, and the rows of a table */
+    KHEYAMBO_ENTRY_WORDS = 3       /* the words of a table's row and of an index's entry: id, start, end */
+};
+
+/* The words of a directory for m, which must be exact: 6 for m = 0, 8,190 for m = 10. 0 where there is no such m. */
+static inline size_t kheyambo_directory_words(uint32_t m) {
+    return m > KHEYAMBO_DEEPEST ? 0 : 4 * (((size_t)2 << m) - 1) + 2;
+}
+
+/* The most entries that one trip has, in both arenas together; exactly one of them is an original. */
+static inline size_t kheyambo_most_entries(uint32_t m) { return m < 2 ? 1 : 2 * ((size_t)m - 1); }
+
+/* The words that an arena needs at the most for so many trips. A table of short trips needs far fewer replicas; a build that is refused with
+   KHEYAMBO_NO_ROOM has changed nothing, and can be tried again with longer arenas. */
+static inline size_t kheyambo_originals_words(size_t trips) { return KHEYAMBO_ENTRY_WORDS * trips; }
+static inline size_t kheyambo_replicas_words(uint32_t m, size_t trips) {
+    return KHEYAMBO_ENTRY_WORDS * (kheyambo_most_entries(m) - 1) * trips;
+}
+
+/* ---- The relationships, question q against trip s */
+
+enum {
+    KHEYAMBO_EQUALS = 0,         /* q.st = s.st, q.end = s.end */
+    KHEYAMBO_STARTS = 1,         /* q.st = s.st, q.end < s.end */
+    KHEYAMBO_STARTED_BY = 2,     /* q.st = s.st, q.end > s.end */
+    KHEYAMBO_FINISHES = 3,       /* q.st > s.st, q.end = s.end */
+    KHEYAMBO_FINISHED_BY = 4,    /* q.st < s.st, q.end = s.end */
+    KHEYAMBO_MEETS = 5,          /* q.end = s.st */
+    KHEYAMBO_MET_BY = 6,         /* q.st = s.end */
+    KHEYAMBO_OVERLAPS = 7,       /* q.st < s.st < q.end < s.end */
+    KHEYAMBO_OVERLAPPED_BY = 8,  /* s.st < q.st < s.end < q.end */
+    KHEYAMBO_CONTAINS = 9,       /* q.st < s.st, s.end < q.end */
+    KHEYAMBO_CONTAINED_BY = 10,  /* s.st < q.st, q.end < s.end */
+    KHEYAMBO_BEFORE = 11,        /* q.end < s.st */
+    KHEYAMBO_AFTER = 12,         /* s.end < q.st */
+    KHEYAMBO_G_OVERLAPS = 13     /* q.st <= s.end, s.st <= q.end: they share a second */
+};
+
+/* ---- The numbers of refusal */
+
+enum {
+    KHEYAMBO_ACCEPTED = 0,
+    KHEYAMBO_RULER_OUT_OF_BOUNDS = 1,
+    KHEYAMBO_TABLE_SIZE = 2,           /* build: no whole rows, or over 4,096; add: 4,096 trips already */
+    KHEYAMBO_DIRECTORY_LENGTH = 3,     /* not kheyambo_directory_words(m) */
+    KHEYAMBO_OFF_RULER = 4,            /* a start or end is 2^w or more. Detail, in a build: the row, from 0 */
+    KHEYAMBO_BACKWARD = 5,             /* start > end: a night trip whose end was wrapped? Detail as for 4 */
+    KHEYAMBO_ID_TAKEN = 6,             /* Detail as for 4 */
+    KHEYAMBO_NO_ROOM = 7,              /* an arena or the answer list is too short. Detail, in a question: the matches */
+    KHEYAMBO_NOT_AN_INDEX = 8,         /* the words are no table's index for this ruler and these lengths */
+    KHEYAMBO_NO_RELATIONSHIP = 9,
+    KHEYAMBO_NO_SUCH_ID = 10,
+    KHEYAMBO_TOO_MANY_PARTITIONS = 11, /* kept from the old exporter: no trip meets it */
+    KHEYAMBO_NO_SUCH_SLOT = 12
+};
+
+/* ---- What the calls answer */
+
+/* The number of refusal, or 0, and its detail, which is 0 unless the number's line names one. */
 typedef struct {
     uint32_t number;
     uint32_t detail;
@@ -44,40 +118,43 @@ enum { KHEYAMBO_O_IN = 0, KHEYAMBO_O_AFT = 1, KHEYAMBO_R_IN = 2, KHEYAMBO_R_AFT 
 
 typedef uint32_t kheyambo_counts[KHEYAMBO_LEVELS][KHEYAMBO_SUBDIVISIONS];
 
-/* The words of a table's row and of an index's entry: id, start, end. */
-enum { KHEYAMBO_ENTRY_WORDS = 3 };
+/* ---- The calls. The numbers after "Refuses" are in the order in which they are judged. Cost: n trips, e entries. */
 
-/* Builds the index of a table of rows. Refuses 1, 2, 3; for the first bad row 4, 5, 6, 11 (detail: the row); 7. */
+/* Builds the index of a table of rows, over whatever the words were. Refuses 1, 2, 3; for the first bad row 4, 5, 6, 11; 7.
+   Cost: one pass for each level of each trip, and a sort of each slot and of the ids; n log n at the most. */
 kheyambo_said kheyambo_build(uint32_t w, uint32_t m, const uint32_t *table, size_t table_words, uint32_t *directory,
                              size_t directory_words, uint32_t *originals, size_t originals_words, uint32_t *replicas,
                              size_t replicas_words);
 
-/* Whether the words are the index of some table for this ruler and these lengths. Refuses 1, 3, 8. */
+/* Whether the words are the index of some table for this ruler and these lengths. Refuses 1, 3, 8.
+   Cost: about that of a build. Every call below begins with it, and it is nearly all that they cost. */
 kheyambo_said kheyambo_check(uint32_t w, uint32_t m, const uint32_t *directory, size_t directory_words,
                              const uint32_t *originals, size_t originals_words, const uint32_t *replicas,
                              size_t replicas_words);
 
-/* Adds a trip. Refuses 1, 3, 8, 2, 4, 5, 6, 11, 7. */
+/* Adds a trip: every word is then what a build with it would write. Refuses 1, 3, 8, 2, 4, 5, 6, 11, 7.
+   Cost: a check, and for each entry of the trip a move of the entries after it. */
 kheyambo_said kheyambo_add(uint32_t w, uint32_t m, uint32_t id, uint32_t start, uint32_t end, uint32_t *directory,
                            size_t directory_words, uint32_t *originals, size_t originals_words, uint32_t *replicas,
                            size_t replicas_words);
 
-/* Removes the trip with this id. Refuses 1, 3, 8, 10. */
+/* Removes the trip with this id: every word is then what a build without it would write. Refuses 1, 3, 8, 10. Cost: as an addition. */
 kheyambo_said kheyambo_remove(uint32_t w, uint32_t m, uint32_t id, uint32_t *directory, size_t directory_words,
                               uint32_t *originals, size_t originals_words, uint32_t *replicas, size_t replicas_words);
 
-/* Lists the ids of the trips to which the window stands so, in ascending order, in the first words of answers; later words stay. The code is
-   0 to 13. Refuses 1, 3, 8, 9, 4, 5, 7 (detail: the matches). */
+/* Lists the ids of the trips to which the window stands so, in ascending order, in the first words of answers; later words stay. The window
+   is closed at both ends. An answer list of as many words as the index has trips is always long enough.
+   Refuses 1, 3, 8, 9, 4, 5, 7. Cost: a check, the matches, and a sort of them. */
 kheyambo_told kheyambo_ask(uint32_t w, uint32_t m, uint32_t code, uint32_t start, uint32_t end, const uint32_t *directory,
                            size_t directory_words, const uint32_t *originals, size_t originals_words,
                            const uint32_t *replicas, size_t replicas_words, uint32_t *answers, size_t answers_words);
 
-/* Counts the entries of each subdivision at each level; all zeros on a refusal. Refuses 1, 3, 8. */
+/* Counts the entries of each subdivision at each level; all zeros on a refusal. Refuses 1, 3, 8. Cost: two checks. */
 kheyambo_said kheyambo_census(uint32_t w, uint32_t m, const uint32_t *directory, size_t directory_words,
                               const uint32_t *originals, size_t originals_words, const uint32_t *replicas,
                               size_t replicas_words, kheyambo_counts *counts);
 
-/* Where the entries of one subdivision of a partition stand. Refuses 1, 3, 8, 12. */
+/* Where the entries of one subdivision of a partition stand. Refuses 1, 3, 8, 12. Cost: three checks. */
 kheyambo_shown kheyambo_run(uint32_t w, uint32_t m, uint32_t level, uint32_t partition, uint32_t subdivision,
                             const uint32_t *directory, size_t directory_words, const uint32_t *originals,
                             size_t originals_words, const uint32_t *replicas, size_t replicas_words);
