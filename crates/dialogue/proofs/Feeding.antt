@@ -3,18 +3,18 @@
 use mathlib.Core.Path.{_≡_, refl, sym, ap, _∙_}
 use mathlib.Core.Bool.{Bool, true, false, cond, _&&_}
 use mathlib.Core.List.{List, [], _∷_, _++_, append-assoc, append-nil, flatten}
-use Prim.Native.Nat.{ℕ, zero, suc, _+_, _≤_}
+use Prim.Native.Nat.{ℕ, zero, suc}
 use native.Mathlib.Omega.{arith}
-use borrow.Author.Tests.{lt-ltb, leb-true, leb-false}
-use lib.Dec.{ltb, leb, eqb}
+use borrow.Author.Tests.{lt-ltb}
+use lib.Dec.{ltb, eqb}
 use lib.ListN.{length, take}
-use lib.Seq.{take-all, take-append-le, take-take}
+use Rattle.layout.specs.Words.{Index}
 use Rattle.text.specs.Bytes.{newline}
-use Rattle.text.specs.Command.{commandOf, longestLine}
+use Rattle.text.specs.Command.{commandOf}
 use Rattle.text.specs.Lines.{unlessEmpty, linesOf}
 use Rattle.text.proofs.LineSteps.{linesAfter, after-nothing, after-all, after-newline, after-byte}
-use Rattle.dialogue.specs.Session.{State, Turn, turnOf, writesFor, start, sessionOf}
-use Rattle.dialogue.specs.Feeding.{lineKept, Held, held, Feed, leaving, begun, lineDone, byteKept, byteOf, feedOf, endOf, runOf}
+use Rattle.dialogue.specs.Session.{State, state, Turn, turnOf, writesFor, start, sessionOf}
+use Rattle.dialogue.specs.Feeding.{lineKept, Held, held, Feed, leaving, begun, lineDone, byteKept, byteOf, feedOf, endOf, runOf, Reached}
 use Rattle.dialogue.proofs.Turns.{cut-turn}
 
 -- ---- Chunks one after another
@@ -26,6 +26,15 @@ feed-append h [] b = refl
 feed-append h (x ∷ a) b =
     let f = byteOf h x in
     rw (feed-append (f .after) a b, append-assoc)
+
+-- what is held at the start was reached, and so is what a chunk more leaves
+pub reached-start : (x : Index) (l : List ℕ) {h : Held} → h ≡ held (state (start .desk) x l) [] true → state (start .desk) x l ≡ start → Reached h
+unfolding begun feedOf
+reached-start x l e words = ([], e ∙ ap (λ (s : State). held s [] true) words)
+
+pub reached-more : {h h′ : Held} (chunk : List ℕ) → Reached h → h′ ≡ feedOf h chunk .after → Reached h′
+reached-more chunk (input, e) more =
+    (input ++ chunk, more ∙ ap (λ (y : Held). feedOf y chunk .after) e ∙ ap (λ (f : Feed). f .after) (sym (feed-append begun input chunk)))
 
 -- what is written for an input and its end
 abbrev written : Held → (input : List ℕ) → List ℕ

@@ -90,7 +90,8 @@ pub line-left : (s : Standing) (x : Index) (l : List ℕ) → Sound s → {r : T
     → Left (lineDone (heldBy s x l)) (afterLine r) x′ l′ out₀ out
 unfolding lineDone padded
 line-left s x l sound {r} {x′} {l′} {out₀} {out} d =
-    let done : Done (turnOf (state (s .desk) x l) (commandOf (take (s .held) (s .line)))) r x′ l′ out₀ out = rw (head-lent (s .line) (s .held)) at d in
+    let done : Done (turnOf (state (s .desk) x l) (commandOf (take (s .held) (s .line)))) r x′ l′ out₀ out =
+    rw (head-lent (s .line) (s .held)) at d in
     record {
       holds = rw (done .next, done .goes);
       sound = record { within = omega arith; zeros = refl; ruler = done-keeps _ _ done (sound .ruler) };

@@ -68,6 +68,10 @@ unfoldable pub runOf : Held → (chunks : List (List ℕ)) → List ℕ
 runOf h [] = endOf h .writes
 runOf h (chunk ∷ chunks) = let f = feedOf h chunk in f .writes ++ runOf (f .after) chunks
 
+-- what is held once some input was fed from the start
+abbrev pub Reached : Held → Type 0
+Reached h = (input : List ℕ) × (h ≡ feedOf begun input .after)
+
 -- what the code holds, with the words lent
 abbrev pub heldBy : Standing → Index → (answers : List ℕ) → Held
 heldBy s x l = held (state (s .desk) x l) (take (s .held) (s .line)) (s .more)

@@ -26,7 +26,10 @@ loop-holds : tie.Need-loop-holds Inv-loop μ-loop
 loop-holds c = let g = c .before .before .before .before .before .before in (feeding-start _ _ _ _ _ (g .pre .0), refl, refl, refl, refl)
 
 add-end : tie.Need-add-end Inv-loop μ-loop
-add-end c = let g = c .before .before .before .before .before .before .before .before in omega (arith, c .before .loop .inv .0 .short, g .pre .1 .room, c .before .loop .inv .0 .upto)
+add-end c =
+    let g = c .before .before .before .before .before .before .before .before in
+    let w = c .before .loop .inv .0 in
+    omega (arith, w .short, w .upto, g .pre .1 .room)
 
 shared-slice-read-take-byte : tie.Need-shared-slice-read-take-byte Inv-loop μ-loop
 shared-slice-read-take-byte c = search needs
@@ -48,29 +51,31 @@ take-byte-requires c κs = search needs
 
 add-to : tie.Need-add-to Inv-loop μ-loop
 add-to c =
-    let g = c .before .before .before .before .before .before .before .before .before .before .before .before .before .before .before .before .before .before .before .before .before .before .before .before .before .before .before in
-    let l = c .before .before .before .before .before .before .before .before .before .before .before .before .before .before .before .before .before .before .before .before .loop in
+    let fed = c .before .before .before .before .before .before .before .before .before .before .before .before in
+    let l = fed .before .before .before .before .before .before .before .before .loop in
+    let g = fed .before .before .before .before .before .before .before .before .before .before .before .before .before .before .before in
     let w = l .inv .0 in
-    let short = byte-short (l .out) (l .to) _ refl (c .before .before .before .before .before .before .before .before .before .before .before .before .take-byte .ensures) in
-    omega (arith, w .short, w .upto, g .pre .1 .room)
+    let short = byte-short (l .out) (l .to) _ refl (fed .take-byte .ensures) in
+    omega (arith, fed .before .before .before .before .before .before .before .loop-test .taken, w .short, g .pre .1 .room, g .good .1 .1 .1 .1 .1 .1 .0 .0)
 
 add-i : tie.Need-add-i Inv-loop μ-loop
 add-i c =
-    let g = c .before .before .before .before .before .before .before .before .before .before .before .before .before .before .before .before .before .before .before .before .before .before .before .before .before .before .before in
-    omega (arith, c .before .before .before .before .before .before .before .before .before .before .before .before .before .before .before .before .before .before .before .loop-test .taken, g .pre .1 .room)
+    let fed = c .before .before .before .before .before .before .before .before .before .before .before .before in
+    let g = fed .before .before .before .before .before .before .before .before .before .before .before .before .before .before .before in
+    omega (arith, fed .before .before .before .before .before .before .before .loop-test .taken, g .good .1 .0 .0)
 
 loop-less : tie.Need-loop-less Inv-loop μ-loop
 loop-less c = search needs
 
 loop-again : tie.Need-loop-again Inv-loop μ-loop
 loop-again c =
-    let g = c .before .before .before .before .before .before .before .before .before .before .before .before .before .before .before .before .before .before .before .before .before .before .before .before .before .before .before in
-    let l = c .before .before .before .before .before .before .before .before .before .before .before .before .before .before .before .before .before .before .before .before .loop in
+    let fed = c .before .before .before .before .before .before .before .before .before .before .before .before in
+    let l = fed .before .before .before .before .before .before .before .before .loop in
+    let g = fed .before .before .before .before .before .before .before .before .before .before .before .before .before .before .before in
     let v = l .inv in
-    let more = c .before .before .before .before .before .before .before .before .before .before .before .before .before .before .before .before .before .before .before .loop-test .taken in
+    let more = fed .before .before .before .before .before .before .before .loop-test .taken in
     let room : l .to + mostReply ≤ length (l .out) = omega (arith, more, v .0 .short, v .0 .long, g .pre .1 .room) in (
-      feeding-turn (l .to + mostReply) (v .0) more refl room
-          (c .before .before .before .before .before .before .before .before .before .before .before .before .take-byte .ensures),
+      feeding-turn (l .to + mostReply) (v .0) more refl room (fed .take-byte .ensures),
       c .before .before .before .before .before .before .before .before .before .before .before .directory .given ∙ v .1,
       c .before .before .before .before .before .before .before .before .before .originals .given ∙ v .2,
       c .before .before .before .before .before .before .before .replicas .given ∙ v .3,

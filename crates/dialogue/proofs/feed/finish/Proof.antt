@@ -26,12 +26,12 @@ same-length-5 c = search needs
 
 returns : tie.Need-returns
 returns c =
-    let g = c .before .before .before .before .before .before .before .before .before .before .before .before .before .before .before .before .before .before .before .before .before .before .before
-    in
+    let done = c .before .before .before .before .before .before .before .before .before .before in
+    let test = done .before .before .before .before .before .before in
+    let g = test .before .before .before .before .before .before .before in
     let a = g .args in
     end-line (a .standing) (index (a .directory .now) (a .originals .now) (a .replicas .now)) (a .answers .now) (g .pre .0)
-    (c .before .before .before .before .before .before .before .before .before .before .before .before .before .before .before .before .if1 .taken)
-    (c .before .before .before .before .before .before .before .before .before .before .line-done .ensures)
+    (test .if1 .taken) (done .line-done .ensures)
 
 silent-requires : tie.Need-silent-requires
 silent-requires c κs = search needs

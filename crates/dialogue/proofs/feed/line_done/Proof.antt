@@ -34,8 +34,9 @@ same-length-5 c = search needs
 
 returns : tie.Need-returns
 returns c =
-    let g = c .before .before .before .before .before .before .before .before .before .before .before .before .before .before .before .before .before .before .before .before .before .before .before .before .before in
-    line-left (g .args .standing) _ _ (g .pre .0) (c .before .before .before .before .before .before .before .before .before .before .before .turn .ensures)
+    let turned = c .before .before .before .before .before .before .before .before .before .before .before in
+    let g = turned .before .before .before .before .before .before .before .before .before .before .before .before .before .before in
+    line-left (g .args .standing) _ _ (g .pre .0) (turned .turn .ensures)
 
 pub line-done-spec : {M : Type 1} → statement M
 line-done-spec =

@@ -36,11 +36,11 @@ same-length-5 c = search needs
 
 returns-2 : tie.Need-returns-2
 returns-2 c =
-    let a = c .before .before .before .before .before .before .before .before .before .before .before .before .before .before .before .before .before .before .before .before .before .before .before .before .args
-    in
+    let done = c .before .before .before .before .before .before .before .before .before .before in
+    let test = done .before .before .before .before .before .before in
+    let a = test .before .before .before .before .before .before .before .before .args in
     byte-ends (a .standing) (index (a .directory .now) (a .originals .now) (a .replicas .now)) (a .answers .now) (a .byte)
-    (not-false _ (c .before .before .before .before .before .before .before .before .before .before .before .before .before .before .before .before .before .if1 .left))
-    (c .before .before .before .before .before .before .before .before .before .before .before .before .before .before .before .before .if2 .taken) (c .before .before .before .before .before .before .before .before .before .before .line-done .ensures)
+    (not-false _ (test .before .if1 .left)) (test .if2 .taken) (done .line-done .ensures)
 
 keep-byte-requires : tie.Need-keep-byte-requires
 keep-byte-requires c κs = search needs
@@ -50,10 +50,10 @@ silent-requires-2 c κs = search needs
 
 returns-3 : tie.Need-returns-3
 returns-3 c =
-    let a = c .before .before .before .before .before .before .before .before .before .before .args in
+    let test = c .before .before in
+    let a = test .before .before .before .before .before .before .before .before .args in
     byte-stays (a .standing) (index (a .directory .now) (a .originals .now) (a .replicas .now)) (a .answers .now) (a .byte)
-    (not-false _ (c .before .before .before .if1 .left)) (c .before .before .if2 .left)
-    (c .before .keep-byte .ensures .1 _ _) (c .silent2 .ensures _ _ _)
+    (not-false _ (test .before .if1 .left)) (test .if2 .left) (c .before .keep-byte .ensures .1 _ _) (c .silent2 .ensures _ _ _)
 
 pub take-byte-spec : {M : Type 1} → statement M
 take-byte-spec =
