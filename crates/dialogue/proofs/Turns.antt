@@ -25,8 +25,8 @@ use Rattle.layout.specs.Refusals.{isAccepted, tableOf, askOutcome}
 use Rattle.layout.specs.Calls.{index, After, after, Asked, asked, buildOf, askOf, ifAccepted}
 use Rattle.text.specs.declared.Command.{Command}
 use Rattle.text.specs.declared.Command.the-variants.{Ruler, Add, Remove, Ask, Bad}
-use Rattle.text.specs.Command.{commandOf}
-use Rattle.text.proofs.Longest.{longestLine, cut-line}
+use Rattle.text.specs.Command.{commandOf, longestLine}
+use Rattle.text.proofs.Longest.{cut-line}
 use Rattle.dialogue.specs.declared.Desk.{Desk}
 use Rattle.dialogue.specs.declared.Turned.{Turned}
 use Rattle.dialogue.specs.Reply.{outcomeBytes, answerBytes, Wrote}
@@ -67,6 +67,7 @@ module _ (numbers : Numbers) (d o r : List ℕ) (n : ℕ) (long : n ≡ director
         next = rw (← e);
         goes = refl;
         count = rw (← e, ← ids) (wrote .0);
+        fits = wrote .2;
         bytes = rw (← e, ← ids) (wrote .1);
       }
 
@@ -96,6 +97,7 @@ module _ (numbers : Numbers) (d o r : List ℕ) (n : ℕ) (long : n ≡ director
           next = rw (words, good, same);
           goes = rw (good, same);
           count = rw (← same) (wrote .0);
+          fits = wrote .2;
           bytes = rw (← same) (wrote .1);
         }
 
@@ -114,6 +116,7 @@ module _ (numbers : Numbers) (d o r : List ℕ) (n : ℕ) (long : n ≡ director
           next = rw words;
           goes = refl;
           count = rw (← same) (wrote .0);
+          fits = wrote .2;
           bytes = rw (← same) (wrote .1);
         }
 

@@ -2,7 +2,7 @@
 use mathlib.Core.Path.{_≡_}
 use mathlib.Core.List.{List, [], _∷_, _++_}
 use Prim.Native.Char.{code}
-use Prim.Native.Nat.{ℕ, _+_}
+use Prim.Native.Nat.{ℕ, _+_, _≤_}
 use lib.ListN.{length}
 use lib.Seq.{sets}
 use Rattle.layout.specs.declared.Outcome.{Outcome}
@@ -55,6 +55,6 @@ shortReply = 32
 abbrev pub PutAt : (at : ℕ) → (bytes reply₀ reply : List ℕ) → (r : ℕ) → Type 0
 PutAt at bytes reply₀ reply r = (r ≡ at + length bytes) × (reply ≡ sets reply₀ at bytes)
 
--- this line was written into the reply from its front, and has r bytes
+-- this line was written into the reply from its front, and has r bytes, for which there is room
 abbrev pub Wrote : (line reply₀ reply : List ℕ) → (r : ℕ) → Type 0
-Wrote line reply₀ reply r = (r ≡ length (asLine line)) × (reply ≡ sets reply₀ 0 (asLine line))
+Wrote line reply₀ reply r = (r ≡ length (asLine line)) × (reply ≡ sets reply₀ 0 (asLine line)) × (r ≤ length reply₀)

@@ -36,6 +36,10 @@ mostReplicas = 3328
 abbrev pub mostAnswers : ℕ
 mostAnswers = 256
 
+-- no line that is written is longer: a count, and each of the ids after a space
+abbrev pub mostReply : ℕ
+mostReply = shortReply + (mostDigits + 1) * mostAnswers
+
 -- all that the session keeps: whether a D line was accepted, the ruler that it named, the words lent to the index, and the answer list
 pub record State : Type 0 where
   pub desk : Desk
@@ -129,11 +133,12 @@ sessionOf input = writesFor start (linesOf input)
 abbrev pub turned : Desk → (written : ℕ) → (more : Bool) → Turned
 turned d n b = record { desk = d; written = n; more = b }
 
--- what a turn of the code left is what the turn t says
+-- what a turn of the code left is what the turn t says, and all that is written has room
 pub record Done (t : Turn) (r : Turned) (x : Index) (answers reply₀ reply : List ℕ) : Type 0 where
   pub next : state (r .desk) x answers ≡ t .next
   pub goes : r .more ≡ t .goesOn
   pub count : r .written ≡ length (t .writes)
+  pub fits : r .written ≤ length reply₀
   pub bytes : reply ≡ sets reply₀ 0 (t .writes)
 
 -- the words lent have room for a turn: the directory for every ruler of the session, and the reply for a line that lists no ids
@@ -144,4 +149,4 @@ Room n directory reply = (n .m ≤ deepestHere) × (directoryLength deepestHere 
 abbrev pub RoomToAnswer : Numbers → (directory answers reply : List ℕ) → Type 0
 RoomToAnswer n directory answers reply =
     (n .m ≤ deepestHere) × (directoryLength deepestHere ≤ length directory) × (length answers ≤ mostAnswers)
-    × (shortReply + (mostDigits + 1) * mostAnswers ≤ length reply)
+    × (mostReply ≤ length reply)

@@ -1,6 +1,7 @@
-// One turn of the session program: what a line does to the index, and what is written for it.
+// The session program without its reading and writing: what some of the input does to the index, and what is written for it.
 use ruler::Numbers;
 
+pub mod feed;
 pub mod reply;
 pub mod turn;
 

@@ -1,49 +1,38 @@
--- An input line by line, as `line_end` finds the lines: the one that begins at a place, and those after its newline.
+-- An input byte by byte: the lines of one whose first line has begun.
 -- Assumes nothing.
-use mathlib.Core.Path.{_≡_, refl}
-use mathlib.Core.Bool.{Bool, true, false}
-use mathlib.Core.List.{List, [], _∷_}
-use Prim.Native.Nat.{ℕ, _+_, _≤_, _<_}
-use native.Mathlib.Omega.{arith}
-use borrow.Author.Tests.{leb-true, leb-false}
-use lib.Dec.{leb}
-use lib.ListN.{length, drop, drop-of-length-le, length-take, length-drop}
-use Rattle.text.specs.Bytes.{newline, parted}
-use Rattle.text.specs.Lines.{lineEnd, withoutEmptyLast, linesOf}
-use Rattle.text.proofs.Parting.{partsFrom, parts-at, parts-past, parted-first, between, parts-step}
+use mathlib.Core.Path.{_≡_, _∙_}
+use mathlib.Core.Bool.{true, false}
+use mathlib.Core.List.{List, [], _∷_, _++_, append-nil, append-assoc}
+use Prim.Native.Nat.{ℕ}
+use lib.Dec.{eqb}
+use Rattle.text.specs.Bytes.{newline, onFirst, parted}
+use Rattle.text.specs.Lines.{unlessEmpty, withoutEmptyLast, linesOf}
+use Rattle.text.proofs.Parting.{parted-first}
 
--- a part before others is kept, and so is a last one that is not empty
-keep-first : (p l : List ℕ) → withoutEmptyLast (p ∷ parted newline l) ≡ p ∷ withoutEmptyLast (parted newline l)
-unfolding withoutEmptyLast
-keep-first p l = rw (parted-first newline l)
+-- the parts, with bytes in front of the first
+abbrev onFront : List ℕ → List (List ℕ) → List (List ℕ)
+onFront l [] = l ∷ []
+onFront l (p ∷ ps) = (l ++ p) ∷ ps
 
-keep-last : (p : List ℕ) → 0 < length p → withoutEmptyLast (p ∷ []) ≡ p ∷ []
-unfolding withoutEmptyLast
-keep-last [] h = absurd (omega arith)
-keep-last (b ∷ p) h = refl
+-- the lines of an input, of whose first line l was read before
+unfoldable pub linesAfter : List ℕ → List ℕ → List (List ℕ)
+linesAfter l input = withoutEmptyLast (onFront l (parted newline input))
 
--- no line begins at the end of the input
-pub no-line : (l : List ℕ) (i : ℕ) → length l ≤ i → linesOf (drop i l) ≡ []
-unfolding linesOf withoutEmptyLast parted
-no-line l i h = rw (drop-of-length-le l {i = i} h)
+pub after-nothing : (input : List ℕ) → linesAfter [] input ≡ linesOf input
+unfolding linesAfter linesOf
+after-nothing input = rw (parted-first newline input)
 
--- the line that begins at any other place, and those after it
-pub first-line : (l : List ℕ) (i : ℕ) → i < length l
-    → linesOf (drop i l) ≡ between i (lineEnd l i) l ∷ linesOf (drop (lineEnd l i + 1) l)
-unfolding linesOf
-first-line l i h = rw (← parts-at newline l i h′, parts-step newline l i h′) (go (leb (e + 1) (length l)) refl)
-  where
-    h′ : i ≤ length l
-    h′ = omega arith
+-- at the end of the input l is the last line, unless it is empty
+pub after-all : (l : List ℕ) → linesAfter l [] ≡ unlessEmpty l
+unfolding linesAfter parted withoutEmptyLast
+after-all l = rw append-nil
 
-    e : ℕ
-    e = lineEnd l i
+module _ (l : List ℕ) (b : ℕ) (input : List ℕ) where
+  -- a newline ends the line, and any other byte belongs to it
+  pub after-newline : eqb b newline ≡ true → linesAfter l (b ∷ input) ≡ l ∷ linesOf input
+  unfolding linesAfter linesOf parted withoutEmptyLast
+  after-newline e = rw (e, append-nil, parted-first newline input)
 
-    go : (t : Bool) → leb (e + 1) (length l) ≡ t
-        → withoutEmptyLast (between i e l ∷ partsFrom newline l (e + 1))
-        ≡ between i e l ∷ withoutEmptyLast (parted newline (drop (e + 1) l))
-    go true t = rw (parts-at newline l (e + 1) (leb-true (e + 1) (length l) t), keep-first (between i e l) (drop (e + 1) l))
-    go false t =
-        let past = leb-false (e + 1) (length l) t in
-        let some : 0 < length (between i e l) = simp (length-take, length-drop) (omega arith) in
-        rw (parts-past newline l (e + 1) past, keep-last (between i e l) some, no-line l (e + 1) (omega arith))
+  pub after-byte : eqb b newline ≡ false → linesAfter l (b ∷ input) ≡ linesAfter (l ++ (b ∷ [])) input
+  unfolding linesAfter parted
+  after-byte e = rw (e, parted-first newline input, append-assoc)

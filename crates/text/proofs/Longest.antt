@@ -17,16 +17,13 @@ use Rattle.text.specs.declared.LineNumbers.the-variants.{None, One, Two,
 use Rattle.text.specs.declared.Command.the-variants.{Bad}
 use Rattle.text.specs.Bytes.{space, onFirst, parted}
 use Rattle.text.specs.Number.{mostDigits, numberOf}
-use Rattle.text.specs.Command.{followedBy, numbersAfter, numbersOf, commandOfFields, commandOf}
+use Rattle.text.specs.Command.{followedBy, numbersAfter, numbersOf, commandOfFields, commandOf, longestLine}
 use Rattle.text.proofs.Parting.{parted-first}
 use Rattle.text.proofs.Reading.{too-many}
 
 -- a space and a number
 abbrev mostField : ℕ
 mostField = 1 + mostDigits
-
-abbrev pub longestLine : ℕ
-longestLine = 1 + 3 * mostField
 
 -- the bytes of fields, with a space for each
 abbrev size : List (List ℕ) → ℕ

@@ -2,7 +2,7 @@
 use mathlib.Core.Bool.{cond}
 use mathlib.Core.List.{List, [], _∷_}
 use Prim.Native.Char.{code}
-use Prim.Native.Nat.{ℕ}
+use Prim.Native.Nat.{ℕ, _+_, _*_}
 use lib.Dec.{eqb}
 use Rattle.text.specs.declared.Command.{Command}
 use Rattle.text.specs.declared.Command.the-variants.{Ruler, Add, Remove, Ask, Bad}
@@ -11,7 +11,7 @@ use Rattle.text.specs.declared.Number.the-variants.{Value, Malformed}
 use Rattle.text.specs.declared.LineNumbers.{LineNumbers}
 use Rattle.text.specs.declared.LineNumbers.the-variants.{None, One, Two, Three, Wrong}
 use Rattle.text.specs.Bytes.{space, parted}
-use Rattle.text.specs.Number.{numberOf}
+use Rattle.text.specs.Number.{mostDigits, numberOf}
 
 -- numbers with one more after them: no line has more than three
 abbrev pub followedBy : LineNumbers → Number → LineNumbers
@@ -48,3 +48,7 @@ commandOfFields ((a ∷ b ∷ l) ∷ fs) = Bad
 -- "Fields are parted by one space": two spaces have an empty field between them, which is no number
 unfoldable pub commandOf : List ℕ → Command
 commandOf line = commandOfFields (parted space line)
+
+-- the most bytes of a line that is not malformed: a letter, and three numbers of ten digits, each after a space
+abbrev pub longestLine : ℕ
+longestLine = 1 + 3 * (1 + mostDigits)

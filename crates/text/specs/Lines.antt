@@ -1,11 +1,7 @@
 -- How an input is parted into lines.
 use mathlib.Core.List.{List, [], _∷_}
 use Prim.Native.Nat.{ℕ}
-use Rattle.text.specs.Bytes.{newline, placeOf, parted}
-
--- where the line that begins at a place ends: at its newline, or at the end of the input
-abbrev pub lineEnd : List ℕ → ℕ → ℕ
-lineEnd l from = placeOf newline l from
+use Rattle.text.specs.Bytes.{newline, parted}
 
 -- a part, or nothing where it is empty
 abbrev pub unlessEmpty : List ℕ → List (List ℕ)

@@ -1,4 +1,4 @@
-// The bytes of the session program: what a line means, how a number is read and written, and where a line ends.
+// The bytes of the session program: what a line means, and how a number is read and written.
 // The public functions take any bytes at all, and their contracts settle every answer.
 ghost use mathlib.Core.Path.{_≡_};
 ghost use Prim.Native.Nat.{_≤_};
@@ -6,14 +6,11 @@ ghost use lib.ListN.{length, drop};
 ghost use Rattle.text.specs.Bytes.{space, parted, placeOf};
 ghost use Rattle.text.specs.Number.{numberOf};
 ghost use Rattle.text.specs.Command.{followedBy, numbersOf, formOf, commandOf};
-ghost use Rattle.text.specs.Lines.{lineEnd};
 ghost use Rattle.text.specs.Decimal.{decimal, written, writtenOf};
 ghost use Rattle.lists.specs.Lists.{over};
 
-// The byte between the fields of a line, and the one between lines.
+// The byte between the fields of a line.
 const SPACE: u8 = b' ';
-
-const NEWLINE: u8 = b'\n';
 
 // The first digit and the last.
 const ZERO: u8 = b'0';
@@ -78,13 +75,6 @@ fn find(bytes: &[u8], from: usize, byte: u8) -> usize
         i += 1;
     }
     i
-}
-
-// Where the line that begins at `from` ends: at its newline, or at the end of the bytes where it lacks one.
-pub fn line_end(bytes: &[u8], from: usize) -> usize
-    ensures { λ r. ⌜ r ≡ lineEnd (now (bytes .entry)) from ⌝ }
-{
-    find(bytes, from, NEWLINE)
 }
 
 // Where the field that begins at `from` ends: at the space after it, or at the end of the bytes.

@@ -1,55 +1,19 @@
--- From byte to byte the ruler is one of the session, and no more of a line is held than has room.
-use Prim.Native.Nat.{_-_, _≤_}
-use lib.ListN.{length}
-use Rattle.dialogue.specs.Session.{deepestHere}
-use borrow.Author.Needs.{needs}
+-- The words lent have room for each line that may end in a chunk.
+use Rattle.layout.specs.Words.{directoryLength, partitions}
 use native.Mathlib.Omega.{arith}
+use borrow.Author.Needs.{needs}
 use Rattle.session.proofs.take_chunk.Statement.{statement}
 use Rattle.session.proofs.take_chunk.Tie as tie
 
-abbrev Inv-loop : tie.InvT-loop
-Inv-loop chunk line₀ directory₀ originals₀ replicas₀ answers₀ reply₀ standing₀ i₀ line directory originals replicas answers reply standing i =
-    (standing .desk .numbers .m ≤ deepestHere) × (standing .held ≤ 64)
+feed-requires : tie.Need-feed-requires
+unfolding directoryLength partitions
+feed-requires c κs = search needs
 
-abbrev μ-loop : tie.MeasureT-loop
-μ-loop chunk line₀ directory₀ originals₀ replicas₀ answers₀ reply₀ standing₀ i₀ line directory originals replicas answers reply standing i =
-    length chunk - i
+write-front-requires : tie.Need-write-front-requires
+write-front-requires c κs = search needs
 
-loop-holds : tie.Need-loop-holds Inv-loop μ-loop
-loop-holds c = search needs
-
-shared-slice-read-take-byte : tie.Need-shared-slice-read-take-byte Inv-loop μ-loop
-shared-slice-read-take-byte c = search needs
-
-take-byte-requires : tie.Need-take-byte-requires Inv-loop μ-loop
-take-byte-requires c κs = search needs
-
-returns : tie.Need-returns Inv-loop μ-loop
+returns : tie.Need-returns
 returns c = search needs
 
-add-i : tie.Need-add-i Inv-loop μ-loop
-add-i c = search needs
-
-loop-less : tie.Need-loop-less Inv-loop μ-loop
-loop-less c = search needs
-
-loop-again : tie.Need-loop-again Inv-loop μ-loop
-loop-again c = search needs
-
-returns-2 : tie.Need-returns-2 Inv-loop μ-loop
-returns-2 c = search needs
-
 pub take-chunk-spec : {M : Type 1} → statement M
-take-chunk-spec =
-    tie.close
-    (tie.spec
-    Inv-loop
-    μ-loop
-    loop-holds
-    shared-slice-read-take-byte
-    take-byte-requires
-    returns
-    add-i
-    loop-less
-    loop-again
-    returns-2)
+take-chunk-spec = tie.close (tie.spec feed-requires write-front-requires returns)

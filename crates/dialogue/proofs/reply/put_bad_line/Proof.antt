@@ -16,7 +16,7 @@ same-length c = search needs
 
 returns : tie.Need-returns
 unfolding asLine badLineBytes
-returns c = (c .before .before .put .ensures .0, c .before .before .put .ensures .1)
+returns c = let p = c .before .before .put .ensures in (p .0, p .1, omega (arith, p .0))
 
 pub put-bad-line-spec : {M : Type 1} → statement M
 put-bad-line-spec = tie.close (tie.spec slice-aggregate-put put-requires same-length returns)

@@ -55,7 +55,10 @@ returns c =
     (decimal (length ids)) (idBytes ids) (newline ∷ [])
     (c .before .before .before .before .before .before .before .before .before .before .before .put-number .ensures) (l .1)
     (c .before .before .put .ensures) in
-    rw (← append-assoc (decimal (length ids)) (idBytes ids) (newline ∷ [])) at three
+    let whole = rw (← append-assoc (decimal (length ids)) (idBytes ids) (newline ∷ [])) at three in
+    let n = c .before .before .before .before .before .before .before .before .before .before .before .put-number .ensures in
+    let few = ten-digits (length ids) (omega arith) in
+    (whole .0, whole .1, omega (arith, c .before .before .put .ensures .0, l .0, n .0))
 
 pub put-list-spec : {M : Type 1} → statement M
 put-list-spec =

@@ -56,7 +56,7 @@ same-length c = search needs
 returns : tie.Need-returns
 unfolding asLine outcomeBytes okBytes
 returns c = rw (c .before .before .before .before .before .enum-told .given .1)
-    (c .before .before .put .ensures .0, c .before .before .put .ensures .1)
+    (c .before .before .put .ensures .0, c .before .before .put .ensures .1, omega (arith, c .before .before .put .ensures .0))
 
 same-length-2 : tie.Need-same-length-2
 same-length-2 c = search needs
@@ -70,8 +70,12 @@ returns-2 c =
     (refusedBytes ++ (space ∷ [])) (decimal (r .result)) (newline ∷ [])
     (c .before .before .before .before .before .before .before .before .before .before .before .before .put2 .ensures)
     (c .before .before .before .before .before .before .before .put-number .ensures) (c .before .before .put3 .ensures) in
+    let few = ten-digits (r .result) (omega arith) in
+    let w = c .before .before .before .before .before .before .before .before .before .before .before .before .put2 .ensures in
+    let n = c .before .before .before .before .before .before .before .put-number .ensures in
+    let whole = rw (r .ensures) at three in
     rw (c .before .before .before .before .before .before .before .before .before .before .before .before .before .before .before .before .outcome .given .1)
-    (rw (r .ensures) at three)
+    (whole .0, whole .1, omega (arith, w .0, n .0, c .before .before .put3 .ensures .0))
 
 pub put-outcome-spec : {M : Type 1} → statement M
 put-outcome-spec =

@@ -18,6 +18,7 @@ returns c = λ x l. record {
   next = refl;
   goes = refl;
   count = c .before .before .put-bad-line .ensures .0;
+  fits = c .before .before .put-bad-line .ensures .2;
   bytes = c .before .before .put-bad-line .ensures .1;
 }
 
