@@ -1,11 +1,11 @@
 -- Chains of refusals: where one accepts, every test of it failed; and each test, as the fact that it tests.
-use mathlib.Core.Path.{_≡_, refl, ap, _∙_}
+use mathlib.Core.Path.{_≡_, refl, sym, ap, _∙_}
 use mathlib.Core.Bool.{Bool, true, false, not, _&&_, _||_}
 use mathlib.Core.List.{List, [], _∷_, List·Memᴰ as Mem, List·Memᴰ·head as here, List·Memᴰ·tail as there, List·Memᴰ·not-nil as not-nil}
 use Prim.Native.Nat.{ℕ, _+_, _*_, _/_, _%_, _≤_, _<_}
 use native.Mathlib.Omega.{arith}
 use lib.Arith.{le→nltb}
-use lib.Dec.{T, leb, ltb, eqb, eqb→eq, eqb-refl, nltb→le, T-not, not-T}
+use lib.Dec.{T, leb, ltb, eqb, eqb→eq, eqb-refl, ltb→lt, nltb→le, T-not, not-T}
 use lib.ListN.{length}
 use borrow.Author.Tests.{lt-ltb, le-ltb}
 use Rattle.lists.proofs.Tests.{of-and, to-and, of-nor, to-nor, of-not-not, to-not-not}
@@ -151,6 +151,14 @@ has-room n room h = rw (le-ltb room n h)
 pub no-room : (n room : ℕ) → room < n → roomTest n room ≡ Refused NoRoom n
 unfolding roomTest exceeds refuse
 no-room n room h = rw (lt-ltb room n h)
+
+pub of-no-room : (n room d : ℕ) → roomTest n room ≡ Refused NoRoom d → (d ≡ n) × (room < n)
+unfolding roomTest exceeds refuse
+of-no-room n room d e = go (ltb room n) (ltb→lt room n) e
+  where
+    go : (b : Bool) → (T b → room < n) → refuse b NoRoom n Accepted ≡ Refused NoRoom d → (d ≡ n) × (room < n)
+    go true h q = (cc, h tt)
+    go false h q = refused-not NoRoom d (sym q)
 
 pub of-room : (n room : ℕ) → roomTest n room ≡ Accepted → n ≤ room
 unfolding roomTest exceeds

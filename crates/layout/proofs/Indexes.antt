@@ -13,8 +13,9 @@ use Rattle.lists.proofs.Members.{In}
 use Rattle.lists.proofs.Padded.{padded-length}
 use Rattle.lists.proofs.Same.{same-eq, same-refl}
 use Rattle.lists.proofs.Upto.{length-upTo, getD-upTo}
-use Rattle.ruler.specs.Ruler.{Scale}
-use Rattle.ruler.proofs.Fair.{Fair}
+use Rattle.ruler.specs.declared.Numbers.{Numbers}
+use Rattle.ruler.specs.Ruler.{Scale, inBounds, scaleOf}
+use Rattle.ruler.proofs.Fair.{Fair, fair}
 use Rattle.trip.specs.declared.Trip.{Trip}
 use Rattle.layout.specs.declared.Half.{Half}
 use Rattle.layout.specs.declared.Half.the-variants.{Originals, Replicas}
@@ -165,6 +166,11 @@ given-table s table x g = of-build s table (lengthsOf x) (g .accepted) .0
 
 pub given-indexed : (s : Scale) → Fair s → (table : List ℕ) (x : Index) → IndexOf s table x → Indexed s x
 given-indexed s fair table x g = indexed s fair (rows table) x (given-table s table x g) (g .words-are)
+
+-- words that are an index are so for a ruler in bounds
+pub given-fair : (n : Numbers) (table : List ℕ) (x : Index) → IndexOf (scaleOf n) table x → Fair (scaleOf n)
+unfolding scaleOf
+given-fair n table x g = fair n (given-table (scaleOf n) table x g .good)
 
 -- "the index of any table for this ruler and these lengths (a table means one that build accepts)"
 pub index-of-some : (s : Scale) (x : Index) → T (isIndex s x) → IndexOfSome s x

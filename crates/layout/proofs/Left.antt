@@ -11,8 +11,8 @@ use Rattle.trip.specs.declared.Trip.{Trip}
 use Rattle.layout.specs.declared.Outcome.{Outcome}
 use Rattle.layout.specs.declared.Outcome.the-variants.{Accepted}
 use Rattle.layout.specs.Words.{tripWords, words, rows, Index, lengthsOf, layout}
-use Rattle.layout.specs.Refusals.{hasId, IndexOf, tableOf, addOutcome, removeOutcome}
-use Rattle.layout.specs.Calls.{ifAccepted, After, leaving, buildOf, addOf, without, removeOf}
+use Rattle.layout.specs.Refusals.{hasId, buildOutcome, IndexOf, tableOf, addOutcome, removeOutcome}
+use Rattle.layout.specs.Calls.{ifAccepted, After, after, leaving, buildOf, addOf, without, removeOf}
 use Rattle.layout.proofs.Rows.{words-rows, words-cons}
 use Rattle.layout.proofs.Chains.{refuse-pass, of-hasId}
 use Rattle.layout.proofs.Tables.{of-build}
@@ -30,6 +30,14 @@ built-left s table x e =
     let t = of-build s table (lengthsOf x) e .0 in
     let l : lengthsOf (layout s (rows table) (lengthsOf x)) ≡ lengthsOf x = layout-lengths s (rows table) (lengthsOf x) (t .directory) (t .room) in
     rw e (record { is-index = record { accepted = rw l e; words-are = rw l }; lengths = l })
+
+-- and are what build writes there
+pub left-built : (s : Scale) (x : Index) (table : List ℕ) (y : Index) → Left s x table y → buildOf s table x ≡ after Accepted y
+unfolding buildOf leaving ifAccepted
+left-built s x table y l =
+    let e : buildOutcome s table (lengthsOf x) ≡ Accepted = rw (l .lengths) at (l .is-index .accepted) in
+    let w : y ≡ layout s (rows table) (lengthsOf x) = l .is-index .words-are ∙ rw (l .lengths) in
+    rw e (ap (after Accepted) (sym w))
 
 -- a call that is the build of a table leaves its index
 as-built : (s : Scale) (table : List ℕ) (x : Index) (a : After) → a .outcome ≡ Accepted → a ≡ buildOf s table x → Left s x table (a .words)
