@@ -83,7 +83,7 @@ module _ (n : Numbers) (x : Index) where
           sym (check-words (scaleOf n) x false (of-T (inBounds n) good) long no),
     )
 
-    of-call : (rest : Outcome) → (numberOf rest ≡ 8 → ⊥) → (indexTests (scaleOf n) x rest ≡ Refused NotAnIndex 0) ↔ (IndexOfSome (scaleOf n) x → ⊥)
+    of-call : (rest : Outcome) → (numberOf rest ≡ refusalNumber NotAnIndex → ⊥) → (indexTests (scaleOf n) x rest ≡ Refused NotAnIndex 0) ↔ (IndexOfSome (scaleOf n) x → ⊥)
     of-call rest other =
         let h = eight-not-later (scaleOf n) x rest other in
         ((λ e. eight-exactly .0 (h .0 e)), λ none. h .1 (eight-exactly .1 none))

@@ -1,2 +1,3 @@
--- What the demands speak of besides document 01's own words: a history of edits.
+-- What the demands speak of besides document 01's own words: a history of edits, and the stand-ins that it says to try.
 pub mod History
+pub mod StandIns
