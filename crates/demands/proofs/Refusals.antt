@@ -83,7 +83,8 @@ module _ (n : Numbers) (x : Index) where
           sym (check-words (scaleOf n) x false (of-T (inBounds n) good) long no),
     )
 
-    of-call : (rest : Outcome) → (numberOf rest ≡ refusalNumber NotAnIndex → ⊥) → (indexTests (scaleOf n) x rest ≡ Refused NotAnIndex 0) ↔ (IndexOfSome (scaleOf n) x → ⊥)
+    of-call : (rest : Outcome) → (numberOf rest ≡ refusalNumber NotAnIndex → ⊥)
+        → (indexTests (scaleOf n) x rest ≡ Refused NotAnIndex 0) ↔ (IndexOfSome (scaleOf n) x → ⊥)
     of-call rest other =
         let h = eight-not-later (scaleOf n) x rest other in
         ((λ e. eight-exactly .0 (h .0 e)), λ none. h .1 (eight-exactly .1 none))
@@ -98,7 +99,8 @@ module _ (n : Numbers) (x : Index) where
     unfolding removeOutcome
     remove-eight i = of-call _ (other-link _ _ 0 _ (λ e. omega arith) (λ e. omega arith))
 
-    pub ask-eight : (code : ℕ) (w : Window) (room : ℕ) → (askOutcome (scaleOf n) x code w room ≡ Refused NotAnIndex 0) ↔ (IndexOfSome (scaleOf n) x → ⊥)
+    pub ask-eight : (code : ℕ) (w : Window) (room : ℕ)
+        → (askOutcome (scaleOf n) x code w room ≡ Refused NotAnIndex 0) ↔ (IndexOfSome (scaleOf n) x → ⊥)
     unfolding askOutcome windowTests timeTests roomTest
     ask-eight code w room = of-call _ (other-link _ _ 0 _ (λ e. omega arith) (other-link _ _ 0 _ (λ e. omega arith)
         (other-link _ _ 0 _ (λ e. omega arith) (other-link _ _ _ _ (λ e. omega arith) (λ e. omega arith)))))

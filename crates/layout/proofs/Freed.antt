@@ -59,11 +59,13 @@ module _ (s : Scale) (fair : Fair s) (table : List ℕ) (x : Index) (g : IndexOf
       let l = removed-left s fair table x g (u .id) (remove-accepted s fair table x g u m) in
       let gy = l .is-index in
       let row = of-rowTests s rest t 0 Accepted ok .0 in
-      let again : In (tableOf s y) rest = rw (rows-words) at (table-in s fair y (rows (words rest)) (given-table s (words rest) y gy) (gy .words-are)) in
+      let wy = given-table s (words rest) y gy in
+      let again : In (tableOf s y) rest = rw rows-words at (table-in s fair y (rows (words rest)) wy (gy .words-are)) in
       let many : length (tableOf s y) ≡ length rest = given-length s fair (words rest) y gy ∙ rw rows-words in
       let kept : (h : Half) → length (entries s h (t ∷ tableOf s y)) ≤ length (entries s h ts) = λ h.
       let whole = ap length (entries-same s (u ∷ rest) ts (rest-distinct ts d u m) d (of-rest ts d u m) (to-rest ts d u m) h) in
-      let left : length (entries s h (tableOf s y)) ≡ length (entries s h rest) = ap length (given-entries s fair (words rest) y gy h) ∙ rw rows-words in
+      let left : length (entries s h (tableOf s y)) ≡ length (entries s h rest) =
+      ap length (given-entries s fair (words rest) y gy h) ∙ rw rows-words in
       omega (
         arith,
         own-entries s fair t (row .fits) h (tableOf s y),

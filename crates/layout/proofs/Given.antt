@@ -43,7 +43,9 @@ module _ (s : Scale) (ts us : List Trip) (n : Distinct ts) (e : Distinct us) (f 
 
   pub census-same : census s ts ≡ census s us
   unfolding census levelRow
-  census-same = ap (λ (h : ℕ → List ℕ). upTo h (suc deepest)) (fun-ext λ L. rw (level-same L OIn, level-same L OAft, level-same L RIn, level-same L RAft))
+  census-same =
+      ap (λ (h : ℕ → List ℕ). upTo h (suc deepest))
+      (fun-ext λ L. rw (level-same L OIn, level-same L OAft, level-same L RIn, level-same L RAft))
 
   pub runWords-same : (L i : ℕ) (d : Subdivision) → runWords s ts L i d ≡ runWords s us L i d
   unfolding runWords

@@ -2,22 +2,31 @@
 use mathlib.Core.Path.{_≡_, refl, sym, ap, subst, _∙_}
 use mathlib.Core.Bool.{Bool, true, false, not}
 use mathlib.Core.List.{List, _∷_, _++_, List·Memᴰ as Mem}
-use Prim.Native.Nat.{ℕ}
+use Prim.Native.Nat.{ℕ, _≤_}
 use lib.Dec.{T}
+use lib.ListN.{length}
+use Rattle.lists.specs.Lists.{over}
 use Rattle.lists.proofs.Tests.{to-not-not}
-use Rattle.ruler.specs.Ruler.{Scale}
+use Rattle.ruler.specs.declared.Numbers.{Numbers}
+use Rattle.ruler.specs.Ruler.{Scale, scaleOf}
 use Rattle.ruler.proofs.Fair.{Fair}
 use Rattle.trip.specs.declared.Trip.{Trip}
+use Rattle.trip.specs.declared.Window.{Window}
+use Rattle.trip.specs.declared.Relationship.{Relationship}
+use Rattle.trip.specs.Relationships.{codeOf}
+use Rattle.trip.proofs.Codes.{named-code}
 use Rattle.layout.specs.declared.Outcome.{Outcome}
 use Rattle.layout.specs.declared.Outcome.the-variants.{Accepted}
 use Rattle.layout.specs.Words.{tripWords, words, rows, Index, lengthsOf, layout}
-use Rattle.layout.specs.Refusals.{hasId, buildOutcome, IndexOf, tableOf, addOutcome, removeOutcome}
-use Rattle.layout.specs.Calls.{ifAccepted, After, after, leaving, buildOf, addOf, without, removeOf}
-use Rattle.layout.proofs.Rows.{words-rows, words-cons}
-use Rattle.layout.proofs.Chains.{refuse-pass, of-hasId}
+use Rattle.layout.specs.Answers.{matches, answer, question}
+use Rattle.layout.specs.Refusals.{hasId, windowTests, buildOutcome, IndexOf, tableOf, addOutcome, removeOutcome}
+use Rattle.layout.specs.Calls.{ifAccepted, After, after, leaving, buildOf, addOf, without, removeOf, asked, askOf}
+use Rattle.layout.proofs.Rows.{rows-words, words-rows, words-cons}
+use Rattle.layout.proofs.Chains.{refuse-pass, of-hasId, has-room}
 use Rattle.layout.proofs.Tables.{of-build}
-use Rattle.layout.proofs.Indexes.{layout-lengths, given-table, given-indexed}
+use Rattle.layout.proofs.Indexes.{layout-lengths, given-table, given-indexed, given-fair}
 use Rattle.layout.proofs.Edited.{to-indexTests, of-add, in-table, added-is-built, removed-is-built}
+use Rattle.layout.proofs.Given.{answer-count, given-outcome, given-asked}
 
 -- words that are the index of the table, in buffers as long as those of x
 pub record Left (s : Scale) (x : Index) (table : List ℕ) (y : Index) : Type 0 where
@@ -76,3 +85,20 @@ module _ (s : Scale) (fair : Fair s) (table : List ℕ) (x : Index) (g : IndexOf
       let there = in-table s fair x (rows table) (given-table s table x g) (g .words-are) u m in
       to-indexTests s x _ (given-indexed s fair table x g)
       ∙ refuse-pass _ _ 0 _ (to-not-not (hasId (u .id) (tableOf s x)) (has-trip (tableOf s x) u there))
+
+-- ---- a question to the index that a build has left, whatever the buffers
+
+pub built-asked : (n : Numbers) (ts : List Trip) (r : Relationship) (w : Window) (ids : List ℕ) → windowTests (scaleOf n) w Accepted ≡ Accepted
+    → answer (question r w) ts ≡ ids → (x : Index) (list : List ℕ) → buildOf (scaleOf n) (words ts) x .outcome ≡ Accepted → length ids ≤ length list
+    → askOf (scaleOf n) (buildOf (scaleOf n) (words ts) x .words) (codeOf r) w list ≡ asked Accepted (length ids) (over ids list)
+built-asked n ts r w ids on-ruler right x list e room =
+    let s = scaleOf n in
+    let y = buildOf s (words ts) x .words in
+    let g = built-left s (words ts) x e .is-index in
+    let f = given-fair n (words ts) y g in
+    let q = question r w in
+    let of-rows : answer q (rows (words ts)) ≡ ids = rw rows-words right in
+    let many : length (matches q (rows (words ts))) ≡ length ids = sym (answer-count q (rows (words ts))) ∙ ap length of-rows in
+    let accepted = given-outcome s f (words ts) y g (codeOf r) r (named-code r) w (length list) on-ruler
+    ∙ has-room (length (matches q (rows (words ts)))) (length list) (rw many room) in
+    rw of-rows at (given-asked s f (words ts) y g (codeOf r) r (named-code r) w list accepted)
