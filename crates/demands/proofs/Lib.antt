@@ -1,5 +1,6 @@
 -- The demands of the product as theorems, that every contract settles its answer, and that no stand-in meets one.
 pub mod Settled
+pub mod SettledParts
 pub mod SettledPrograms
 pub mod Refusals
 pub mod Exact
