@@ -2,12 +2,11 @@
 use mathlib.Core.Path.{_≡_, refl, sym, ap, _∙_}
 use mathlib.Core.Bool.{Bool, true, false, not, _&&_}
 use mathlib.Core.List.{List, _++_}
-use Prim.Native.Nat.{ℕ, _≤_, _<_}
-use native.Mathlib.Omega.{arith}
-use lib.Dec.{T, leb, ltb, nltb→le}
+use Prim.Native.Nat.{ℕ}
+use lib.Dec.{T, leb, ltb}
 use lib.ListN.{length, take, drop}
 use lib.Seq.{take-at, drop-at}
-use borrow.Author.Tests.{lt-ltb, le-ltb, ltb-false, not-false}
+use borrow.Author.Tests.{ltb-false, not-false}
 use Rattle.lists.specs.Lists.{ascending, over}
 use Rattle.lists.proofs.Tests.{of-and, to-T}
 use Rattle.lists.proofs.Members.{length-sort}
@@ -19,33 +18,19 @@ use Rattle.trip.specs.declared.Named.the-variants.{As, Nothing}
 use Rattle.trip.specs.Relationships.{lastCode, named}
 use Rattle.trip.proofs.Naming.{nothing-above, named-within}
 use Rattle.layout.specs.declared.Refusal.{Refusal}
-use Rattle.layout.specs.declared.Refusal.the-variants.{OffRuler, Backward, NoRoom, NoRelationship}
+use Rattle.layout.specs.declared.Refusal.the-variants.{OffRuler, Backward, NoRelationship}
 use Rattle.layout.specs.declared.Outcome.{Outcome}
 use Rattle.layout.specs.declared.Outcome.the-variants.{Accepted, Refused}
 use Rattle.layout.specs.Answers.{answer, answerTo}
-use Rattle.layout.specs.Refusals.{refuse, offRuler, backward, exceeds, noSuchCode, timeTests, windowTests, roomTest, tableOf, checkOutcome, askOutcome}
+use Rattle.layout.specs.Refusals.{refuse, offRuler, backward, noSuchCode, timeTests, windowTests, roomTest, tableOf, checkOutcome, askOutcome}
 use Rattle.layout.specs.Calls.{ifAccepted, asked, askOf}
 use Rattle.layout.specs.Words.{Index}
 use Rattle.layout.proofs.Checked.{refused-for-all, passed}
-use Rattle.layout.proofs.Chains.{refuse-no, refuse-pass, refuse-taken}
+use Rattle.layout.proofs.Chains.{refuse-pass, refuse-taken}
 use Rattle.store.specs.Entries.{ids}
 use Rattle.ask.specs.Part.{Listed}
 use Rattle.ask.specs.Chain.{answeredAs, listedOf, answerOf, OnRuler}
 use Rattle.ask.proofs.Written.{ids-length}
-
--- ---- 7
-
-pub has-room : (n room : ℕ) → n ≤ room → roomTest n room ≡ Accepted
-unfolding roomTest exceeds refuse
-has-room n room h = rw (le-ltb room n h)
-
-pub no-room : (n room : ℕ) → room < n → roomTest n room ≡ Refused NoRoom n
-unfolding roomTest exceeds refuse
-no-room n room h = rw (lt-ltb room n h)
-
-pub of-room : (n room : ℕ) → roomTest n room ≡ Accepted → n ≤ room
-unfolding roomTest exceeds
-of-room n room e = nltb→le room n (refuse-no _ NoRoom n Accepted e .0)
 
 -- ---- the two endings
 

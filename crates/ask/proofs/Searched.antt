@@ -1,27 +1,28 @@
--- What a search by halving finds in a slot, and that the entries which it cuts off do not match.
+-- What a search by halving finds in a slot, what is left of it, and that the entries which it cuts off do not match.
 use mathlib.Core.Path.{_≡_, refl, sym, ap, _∙_}
 use mathlib.Core.Bool.{Bool, true, false, true≢false, _&&_, _||_, and-false}
-use mathlib.Core.List.{List, [], _++_, append-nil}
-use Prim.Native.Nat.{ℕ, _+_, _-_, _*_, _/_, _≤_, _<_}
+use mathlib.Core.List.{List, [], _∷_, _++_, append-nil}
+use Prim.Native.Nat.{ℕ, suc, _+_, _-_, _*_, _/_, _%_, _≤_, _<_}
 use native.Mathlib.Omega.{arith}
 use lib.Dec.{ltb, eqb}
 use lib.ListN.{length, getD, take, drop, length-drop}
 use lib.Seq.{getD-take}
-use borrow.Author.Tests.{lt-ltb, ltb-true, eqb-true, lt-leb}
-use Rattle.lists.specs.Lists.{keep}
+use borrow.Author.Tests.{lt-ltb, ltb-true, ltb-false, eqb-true, lt-leb, le-leb}
+use Rattle.lists.specs.Lists.{consIf, keep}
 use Rattle.lists.proofs.Kept.{keep-append, keep-none}
 use Rattle.lists.proofs.Halving.{Between, Falls, between-start, between-up, between-down}
 use Rattle.ruler.specs.declared.Time.{Time}
 use Rattle.ruler.specs.Ruler.{noLater}
 use Rattle.trip.specs.declared.Trip.{Trip}
+use Rattle.layout.specs.declared.Half.{Half}
 use Rattle.layout.specs.declared.Half.the-variants.{Originals, Replicas}
 use Rattle.layout.specs.Stored.{subdivisionOf}
-use Rattle.layout.specs.Words.{entryWords, tripAt, rows, byStart, byEnd, order}
-use Rattle.layout.proofs.Rows.{length-rows, getD-rows, tripAt-drop, whole}
+use Rattle.layout.specs.Words.{entryWords, tripAt, words, rows, byStart, byEnd, order}
+use Rattle.layout.proofs.Rows.{length-rows, getD-rows, tripAt-drop, whole, whole-rest, rows-words, words-rows}
 use Rattle.layout.proofs.RowParts.{rows-split, rows-take, front-length}
 use Rattle.plan.specs.declared.bounds.Bounds.{Bounds}
 use Rattle.plan.specs.Bounds.{has, inside}
-use Rattle.ask.specs.Cut.{timeOf, spanOf, earlierThan, InTurn, Rises, Parted}
+use Rattle.ask.specs.Cut.{timeOf, spanOf, earlierThan, timely, cutOf, InTurn, Rises, Parted}
 
 -- ---- a slot in its order never falls in time
 
@@ -84,7 +85,30 @@ module _ (ends : Bool) (limit : Time) (part : List ℕ) (rises : Rises ends part
         rest = λ j l g. rw (← row j g) (w .high j (omega arith) (omega arith));
       }
 
+-- ---- what a test keeps of a list
+
+module _ {A : Type 0} (p : A → Bool) where
+  -- all of it, where every value passes
+  keep-passes : (d : A) (l : List A) → ((j : ℕ) → j < length l → p (getD l j d) ≡ true) → keep p l ≡ l
+  unfolding keep
+  keep-passes d [] h = refl
+  keep-passes d (x ∷ l) h = rw (h 0 (omega arith)) (ap (λ (k : List A). x ∷ k) (keep-passes d l (λ j g. h (suc j) (omega arith))))
+
+  -- the same after a wider test as before it
+  keep-after : (wide : A → Bool) → ((z : A) → wide z ≡ false → p z ≡ false) → (l : List A) → keep p (keep wide l) ≡ keep p l
+  unfolding keep
+  keep-after wide h [] = refl
+  keep-after wide h (x ∷ l) = go (wide x) (h x) (keep-after wide h l)
+    where
+      go : (b : Bool) → (b ≡ false → p x ≡ false) → keep p (keep wide l) ≡ keep p l → keep p (consIf b x (keep wide l)) ≡ consIf (p x) x (keep p l)
+      go true n ih = ap (consIf (p x) x) ih
+      go false n ih = rw (n refl) ih
+
 -- ---- what is cut off
+
+words-between : (lo to : ℕ) → entryWords * to - entryWords * lo ≡ entryWords * (to - lo)
+unfolding entryWords
+words-between lo to = omega arith
 
 -- the entries from lo up to `to`, where none before them and none after them passes
 module _ (t : Trip → Bool) (part : List ℕ) (lo to : ℕ) (a : lo ≤ to) (b : to ≤ length part / entryWords)
@@ -120,10 +144,10 @@ module _ (t : Trip → Bool) (part : List ℕ) (lo to : ℕ) (a : lo ≤ to) (b 
       in
       rw at (rest (lo + ((to - lo) + j)) (omega arith) (omega arith)))
 
-  pub cut-keeps : keep t (rows (take (entryWords * to - entryWords * lo) (drop (entryWords * lo) part))) ≡ keep t (rows part)
+  cut-keeps : keep t (rows (take (entryWords * to - entryWords * lo) (drop (entryWords * lo) part))) ≡ keep t (rows part)
   unfolding entryWords
   cut-keeps =
-      let size : entryWords * to - entryWords * lo ≡ entryWords * (to - lo) = omega arith in
+      let size : entryWords * to - entryWords * lo ≡ entryWords * (to - lo) = words-between lo to in
       let middle = rows (take (entryWords * (to - lo)) later) in
       let last = rows (drop (entryWords * (to - lo)) later) in
       let all : keep t (rows part) ≡ keep t (rows (take (entryWords * lo) part)) ++ (keep t middle ++ keep t last) =
@@ -134,20 +158,53 @@ module _ (t : Trip → Bool) (part : List ℕ) (lo to : ℕ) (a : lo ≤ to) (b 
       in
       rw (size, all, front-fails, rest-fails, append-nil) refl
 
--- a time before the span, or not before its end, is not one of the span's; so an entry with it does not match
+  -- and where all between pass, they are what the test keeps
+  module _ (mid : (j : ℕ) → lo ≤ j → j < to → t (tripAt part j) ≡ true) where
+    abbrev middle : List ℕ
+    middle = take (entryWords * (to - lo)) later
+
+    middle-length : length middle ≡ entryWords * (to - lo)
+    middle-length = front-length (to - lo) later (rw long (omega arith))
+
+    all-pass : keep t (rows middle) ≡ rows middle
+    all-pass =
+        let few = length-rows middle ∙ ap (λ (n : ℕ). n / entryWords) middle-length ∙ whole (to - lo) in
+        keep-passes t (tripAt part 0) (rows middle) (λ j h.
+        let at : getD (rows middle) j (tripAt part 0) ≡ tripAt part (lo + j) =
+        ap (λ (l : List Trip). getD l j (tripAt part 0)) (sym (rows-take (to - lo) later (rw long (omega arith))))
+        ∙ getD-take (to - lo) (rows later) j (tripAt part 0) (omega arith)
+        ∙ getD-rows later j (tripAt part 0) (rw long (omega arith))
+        ∙ tripAt-drop lo part j
+        in
+        rw at (mid (lo + j) (omega arith) (omega arith)))
+
+    pub cut-is : take (entryWords * to - entryWords * lo) (drop (entryWords * lo) part) ≡ words (keep t (rows part))
+    cut-is =
+        let size : entryWords * to - entryWords * lo ≡ entryWords * (to - lo) = words-between lo to in
+        ap (λ (n : ℕ). take n later) size
+        ∙ sym (words-rows middle (ap (λ (n : ℕ). n % entryWords) middle-length ∙ whole-rest (to - lo)))
+        ∙ ap words (sym all-pass ∙ ap (λ (n : ℕ). keep t (rows (take n later))) (sym size) ∙ cut-keeps)
+
+-- a time before the span, or not before its end, is not one of the span's; one between is; and an entry that is not timely does not match
 module _ (ends : Bool) (bounds : Bounds) (u : Trip) where
-  too-early : earlierThan ends (spanOf ends bounds .from) u ≡ true → has (spanOf ends bounds) (timeOf ends u) ≡ false
-  unfolding has
+  too-early : earlierThan ends (spanOf ends bounds .from) u ≡ true → timely ends bounds u ≡ false
+  unfolding timely has
   too-early e =
       let h = ltb-true (timeOf ends u .0) (spanOf ends bounds .from .0) e in
       rw (lt-leb (spanOf ends bounds .from .0) (timeOf ends u .0) h) refl
 
-  too-late : earlierThan ends (spanOf ends bounds .until) u ≡ false → has (spanOf ends bounds) (timeOf ends u) ≡ false
-  unfolding has
+  too-late : earlierThan ends (spanOf ends bounds .until) u ≡ false → timely ends bounds u ≡ false
+  unfolding timely has
   too-late e = rw e (and-false (noLater (spanOf ends bounds .from) (timeOf ends u)))
 
-  pub outside : has (spanOf ends bounds) (timeOf ends u) ≡ false → inside bounds u ≡ false
-  unfolding inside
+  in-time : earlierThan ends (spanOf ends bounds .from) u ≡ false → earlierThan ends (spanOf ends bounds .until) u ≡ true → timely ends bounds u ≡ true
+  unfolding timely has
+  in-time e l =
+      let h = ltb-false (timeOf ends u .0) (spanOf ends bounds .from .0) e in
+      rw (le-leb (spanOf ends bounds .from .0) (timeOf ends u .0) h, l) refl
+
+  outside : timely ends bounds u ≡ false → inside bounds u ≡ false
+  unfolding timely inside
   outside = go ends
     where
       go : (b : Bool) → has (spanOf b bounds) (timeOf b u) ≡ false → has (bounds .start) (u .start) && has (bounds .end) (u .end) ≡ false
@@ -156,11 +213,28 @@ module _ (ends : Bool) (bounds : Bounds) (u : Trip) where
 
 -- ---- the two searches together
 
-pub within-keeps : (ends : Bool) (bounds : Bounds) (part : List ℕ) (lo hi to : ℕ)
+pub within-is : (ends : Bool) (bounds : Bounds) (part : List ℕ) (lo hi to : ℕ)
     → Parted (earlierThan ends (spanOf ends bounds .from)) part lo → Parted (earlierThan ends (spanOf ends bounds .until)) part hi
-    → lo ≤ to → hi ≤ to → to ≤ length part / entryWords
-    → keep (inside bounds) (rows (take (entryWords * to - entryWords * lo) (drop (entryWords * lo) part))) ≡ keep (inside bounds) (rows part)
-within-keeps ends bounds part lo hi to p q a b c =
-    cut-keeps (inside bounds) part lo to a c
-    (λ j h. outside ends bounds (tripAt part j) (too-early ends bounds (tripAt part j) (p .front j h)))
-    (λ j h k. outside ends bounds (tripAt part j) (too-late ends bounds (tripAt part j) (q .rest j (omega arith) k)))
+    → lo ≤ to → hi ≤ to → to ≤ length part / entryWords → ((j : ℕ) → lo ≤ j → j < to → j < hi)
+    → take (entryWords * to - entryWords * lo) (drop (entryWords * lo) part) ≡ words (keep (timely ends bounds) (rows part))
+within-is ends bounds part lo hi to p q a b c d =
+    cut-is (timely ends bounds) part lo to a c (λ j h. too-early ends bounds (tripAt part j) (p .front j h))
+    (λ j h k. too-late ends bounds (tripAt part j) (q .rest j (omega arith) k))
+    (λ j h k. in-time ends bounds (tripAt part j) (p .rest j h (omega arith)) (q .front j (d j h k)))
+
+-- what is left of a slot has all its matches
+timely-matches : (ends : Bool) (bounds : Bounds) (part : List ℕ)
+    → keep (inside bounds) (rows (words (keep (timely ends bounds) (rows part)))) ≡ keep (inside bounds) (rows part)
+timely-matches ends bounds part =
+    ap (keep (inside bounds)) (rows-words (keep (timely ends bounds) (rows part)))
+    ∙ keep-after (inside bounds) (timely ends bounds) (outside ends bounds) (rows part)
+
+pub cut-matches : (half : Half) (aft : Bool) (bounds : Bounds) (part : List ℕ) {r : List ℕ} → r ≡ cutOf half aft bounds part
+    → keep (inside bounds) (rows r) ≡ keep (inside bounds) (rows part)
+unfolding cutOf
+cut-matches half aft bounds part e = ap (λ (l : List ℕ). keep (inside bounds) (rows l)) e ∙ go half aft
+  where
+    go : (h : Half) (b : Bool) → keep (inside bounds) (rows (cutOf h b bounds part)) ≡ keep (inside bounds) (rows part)
+    go Originals b = timely-matches false bounds part
+    go Replicas true = refl
+    go Replicas false = timely-matches true bounds part

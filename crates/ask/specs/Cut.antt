@@ -6,15 +6,18 @@ use mathlib.Core.List.{List}
 use Prim.Native.Nat.{ℕ, _+_, _/_, _≤_, _<_}
 use lib.Dec.{ltb}
 use lib.ListN.{length}
+use Rattle.lists.specs.Lists.{keep}
 use Rattle.ruler.specs.declared.Time.{Time}
 use Rattle.ruler.specs.Ruler.{before}
 use Rattle.trip.specs.declared.Trip.{Trip}
 use Rattle.layout.specs.declared.Half.{Half}
+use Rattle.layout.specs.declared.Half.the-variants.{Originals, Replicas}
 use Rattle.layout.specs.Stored.{subdivisionOf}
-use Rattle.layout.specs.Words.{entryWords, tripAt, order}
+use Rattle.layout.specs.Words.{entryWords, tripAt, words, rows, order}
 use Rattle.plan.specs.declared.bounds.Span.{Span}
 use Rattle.plan.specs.declared.bounds.Bounds.{Bounds}
 use Rattle.plan.specs.declared.stretches.Stretch.{Stretch}
+use Rattle.plan.specs.Bounds.{has}
 use Rattle.plan.specs.Plan.{stretch}
 use Rattle.ask.specs.Part.{stretchWords, There}
 
@@ -29,6 +32,17 @@ spanOf false b = b .start
 
 abbrev pub earlierThan : (ends : Bool) → (limit : Time) → Trip → Bool
 earlierThan ends limit t = before (timeOf ends t) limit
+
+-- an entry whose time is within its bounds
+unfoldable pub timely : (ends : Bool) → Bounds → Trip → Bool
+timely ends b t = has (spanOf ends b) (timeOf ends t)
+
+-- what is left of a slot: the entries that are timely, by start in the originals and by end in R_in. R_aft is in the order of ids, which tells
+-- nothing of its times.
+unfoldable pub cutOf : Half → (aft : Bool) → Bounds → (part : List ℕ) → List ℕ
+cutOf Originals aft b part = words (keep (timely false b) (rows part))
+cutOf Replicas true b part = part
+cutOf Replicas false b part = words (keep (timely true b) (rows part))
 
 -- the entries of a part are in the order of their subdivision; and so their times never fall
 abbrev pub InTurn : Half → (aft : Bool) → (part : List ℕ) → Type 0

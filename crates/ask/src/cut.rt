@@ -8,9 +8,8 @@ use store::entry::trip_at;
 use trip::Trip;
 ghost use mathlib.Core.Path.{_≡_};
 ghost use Rattle.lists.specs.Lists.{keep};
-ghost use Rattle.layout.specs.Words.{rows};
-ghost use Rattle.plan.specs.Bounds.{inside};
-ghost use Rattle.ask.specs.Cut.{timeOf, spanOf, earlierThan, InTurn, Rises, Parted};
+ghost use Rattle.layout.specs.Words.{words, rows};
+ghost use Rattle.ask.specs.Cut.{timeOf, spanOf, earlierThan, timely, cutOf, InTurn, Rises, Parted};
 
 // The time by which a slot is in order: a trip's end, or its start.
 fn time_of(ends: bool, t: Trip) -> Time
@@ -54,7 +53,7 @@ fn entries_before(ends: bool, limit: Time, part: &[u32]) -> usize
 // The entries whose time is within the bounds. Where the bounds allow no time the second search may stop before the first.
 fn within<'a>(ends: bool, bounds: Bounds, part: &'a [u32]) -> &'a [u32]
     requires { ⌜ Rises ends (now part) ⌝ }
-    ensures { λ r. ⌜ keep (inside bounds) (rows (now r)) ≡ keep (inside bounds) (rows (now (part .entry))) ⌝ }
+    ensures { λ r. ⌜ now r ≡ words (keep (timely ends bounds) (rows (now (part .entry)))) ⌝ }
 {
     let span = span_of(ends, bounds);
     let lo = entries_before(ends, span.from, part);
@@ -68,7 +67,7 @@ fn within<'a>(ends: bool, bounds: Bounds, part: &'a [u32]) -> &'a [u32]
 // A slot without the entries whose time cannot match. R_aft is in the order of ids, which tells nothing of its times.
 pub fn cut<'a>(half: Half, aft: bool, bounds: Bounds, part: &'a [u32]) -> &'a [u32]
     requires { ⌜ InTurn half aft (now part) ⌝ }
-    ensures { λ r. ⌜ keep (inside bounds) (rows (now r)) ≡ keep (inside bounds) (rows (now (part .entry))) ⌝ }
+    ensures { λ r. ⌜ now r ≡ cutOf half aft bounds (now (part .entry)) ⌝ }
 {
     match half {
         Half::Originals => within(false, bounds, part),

@@ -1,4 +1,8 @@
 -- The demands of the product as theorems, that every contract settles its answer, and that no stand-in meets one.
 pub mod Settled
-pub mod Demands
+pub mod SettledParts
+pub mod SettledPrograms
+pub mod Refusals
+pub mod Exact
+pub mod Edits
 pub mod StandIns

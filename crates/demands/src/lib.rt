@@ -1,1 +1,1 @@
-// The three demands of the product, as theorems over the definitions that the contracts cite: see proofs/Demands.antt.
+// The three demands of the product, as theorems over the definitions that the contracts cite: see proofs/Refusals.antt, Exact.antt and Edits.antt.

@@ -1,22 +1,25 @@
 -- Chains of refusals: where one accepts, every test of it failed; and each test, as the fact that it tests.
-use mathlib.Core.Path.{_≡_, refl, ap}
+use mathlib.Core.Path.{_≡_, refl, sym, ap, _∙_}
 use mathlib.Core.Bool.{Bool, true, false, not, _&&_, _||_}
 use mathlib.Core.List.{List, [], _∷_, List·Memᴰ as Mem, List·Memᴰ·head as here, List·Memᴰ·tail as there, List·Memᴰ·not-nil as not-nil}
-use Prim.Native.Nat.{ℕ, _+_, _*_, _/_, _%_, _≤_}
+use Prim.Native.Nat.{ℕ, _+_, _*_, _/_, _%_, _≤_, _<_}
 use native.Mathlib.Omega.{arith}
 use lib.Arith.{le→nltb}
-use lib.Dec.{T, leb, ltb, eqb, eqb→eq, eqb-refl, nltb→le, T-not, not-T}
+use lib.Dec.{T, leb, ltb, eqb, eqb→eq, eqb-refl, ltb→lt, nltb→le, T-not, not-T}
 use lib.ListN.{length}
+use borrow.Author.Tests.{lt-ltb, le-ltb}
 use Rattle.lists.proofs.Tests.{of-and, to-and, of-nor, to-nor, of-not-not, to-not-not}
 use Rattle.ruler.specs.declared.Time.{Time}
 use Rattle.ruler.specs.Ruler.{Scale, mostTrips}
 use Rattle.trip.specs.declared.Trip.{Trip}
+use Rattle.trip.specs.declared.Window.{Window}
 use Rattle.layout.specs.declared.Half.the-variants.{Originals, Replicas}
 use Rattle.layout.specs.declared.Refusal.{Refusal}
+use Rattle.layout.specs.declared.Refusal.the-variants.{NoRoom}
 use Rattle.layout.specs.declared.Outcome.{Outcome}
 use Rattle.layout.specs.declared.Outcome.the-variants.{Accepted, Refused}
 use Rattle.layout.specs.Words.{entryWords, directoryLength, entries, Lengths}
-use Rattle.layout.specs.Refusals.{refuse, isAccepted, outOfBounds, badSize, badDirectory, offRuler, backward, hasId, noRoom, mostPartitions, partitionsHolding, inTooMany}
+use Rattle.layout.specs.Refusals.{refuse, isAccepted, outOfBounds, badSize, badDirectory, offRuler, backward, hasId, noRoom, exceeds, mostPartitions, partitionsHolding, inTooMany, timeTests, windowTests, roomTest}
 use Rattle.layout.proofs.Partitions.{Fits}
 
 -- ---- one link
@@ -138,3 +141,34 @@ to-noRoom s ts n h =
     let o = entryWords * length (entries s Originals ts) in
     let r = entryWords * length (entries s Replicas ts) in
     to-nor (ltb (n .originals) o) (ltb (n .replicas) r) (le→nltb (n .originals) o (h .for-originals)) (le→nltb (n .replicas) r (h .for-replicas))
+
+-- ---- 7 of a question
+
+pub has-room : (n room : ℕ) → n ≤ room → roomTest n room ≡ Accepted
+unfolding roomTest exceeds refuse
+has-room n room h = rw (le-ltb room n h)
+
+pub no-room : (n room : ℕ) → room < n → roomTest n room ≡ Refused NoRoom n
+unfolding roomTest exceeds refuse
+no-room n room h = rw (lt-ltb room n h)
+
+pub of-no-room : (n room d : ℕ) → roomTest n room ≡ Refused NoRoom d → (d ≡ n) × (room < n)
+unfolding roomTest exceeds refuse
+of-no-room n room d e = go (ltb room n) (ltb→lt room n) e
+  where
+    go : (b : Bool) → (T b → room < n) → refuse b NoRoom n Accepted ≡ Refused NoRoom d → (d ≡ n) × (room < n)
+    go true h q = (cc, h tt)
+    go false h q = refused-not NoRoom d (sym q)
+
+pub of-room : (n room : ℕ) → roomTest n room ≡ Accepted → n ≤ room
+unfolding roomTest exceeds
+of-room n room e = nltb→le room n (refuse-no _ NoRoom n Accepted e .0)
+
+-- ---- 4 and 5 of a window
+
+pub window-pass : (s : Scale) (w : Window) (rest : Outcome) → windowTests s w Accepted ≡ Accepted → windowTests s w rest ≡ rest
+unfolding windowTests timeTests
+window-pass s w rest e =
+    let a = refuse-no _ _ 0 _ e in
+    let b = refuse-no _ _ 0 _ (a .1) in
+    refuse-pass _ _ 0 _ (a .0) ∙ refuse-pass _ _ 0 _ (b .0)

@@ -1,6 +1,7 @@
 -- The tests 1, 3, 8 that each call on an index begins with: where the check of the index is refused, so is the call, for the same reason;
 -- where it passes, the rest of the call's chain decides.
-use mathlib.Core.Path.{_≡_, sym, ap, _∙_}
+use mathlib.Core.Path.{_≡_, refl, sym, ap, _∙_}
+use mathlib.Core.Logic.{_↔_}
 use mathlib.Core.Bool.{Bool, true, false, not}
 use Prim.Native.Nat.{ℕ}
 use native.Mathlib.Omega.{arith}
@@ -13,7 +14,7 @@ use Rattle.layout.specs.declared.Refusal.the-variants.{RulerOutOfBounds,
 use Rattle.layout.specs.declared.Outcome.{Outcome}
 use Rattle.layout.specs.declared.Outcome.the-variants.{Accepted, Refused}
 use Rattle.layout.specs.Words.{Index, directoryLength}
-use Rattle.layout.specs.Refusals.{refuse, outOfBounds, badDirectory, isIndex, indexTests, checkOutcome}
+use Rattle.layout.specs.Refusals.{refusalNumber, numberOf, refuse, outOfBounds, badDirectory, isIndex, indexTests, checkOutcome}
 use Rattle.layout.proofs.Chains.{refuse-pass, refuse-taken, to-outOfBounds, to-badDirectory}
 use Rattle.layout.proofs.Indexes.{Indexed}
 use Rattle.layout.proofs.Edited.{of-indexTests, to-indexTests}
@@ -42,6 +43,22 @@ checked s x e = of-indexTests s x Accepted e .0
 -- and the rest of a call's chain decides
 pub passed : (s : Scale) (x : Index) → checkOutcome s x ≡ Accepted → (rest : Outcome) → indexTests s x rest ≡ rest
 passed s x e rest = to-indexTests s x rest (checked s x e)
+
+-- ---- 8: a call whose other links give other numbers is refused with 8 exactly where the check is
+
+pub eight-not-later : (s : Scale) (x : Index) (rest : Outcome) → (numberOf rest ≡ refusalNumber NotAnIndex → ⊥)
+    → (indexTests s x rest ≡ Refused NotAnIndex 0) ↔ (checkOutcome s x ≡ Refused NotAnIndex 0)
+eight-not-later s x rest other = (go (checkOutcome s x) refl, λ e. refused-for-all s x NotAnIndex 0 e rest)
+  where
+    go : (o : Outcome) → checkOutcome s x ≡ o → indexTests s x rest ≡ Refused NotAnIndex 0 → o ≡ Refused NotAnIndex 0
+    go Accepted e q = absurd (other (ap numberOf (sym (passed s x e rest) ∙ q)))
+    go (Refused why d) e q = sym (refused-for-all s x why d e rest) ∙ q
+
+pub other-link : (b : Bool) (why : Refusal) (d : ℕ) (rest : Outcome) → (refusalNumber why ≡ refusalNumber NotAnIndex → ⊥)
+    → (numberOf rest ≡ refusalNumber NotAnIndex → ⊥) → numberOf (refuse b why d rest) ≡ refusalNumber NotAnIndex → ⊥
+unfolding refuse
+other-link true why d rest n h = n
+other-link false why d rest n h = h
 
 -- ---- the outcome of the check, test by test
 

@@ -1,11 +1,10 @@
--- Edits as laws on the definitions: what an accepted edit tells, that the words after it are again an index, that they are what a build
--- writes for ANY table that gives the words before, and that room freed by a removal serves the next addition.
+-- Edits as laws on the definitions: what an accepted edit tells, that the words after it are again an index, and that they are what a build
+-- writes for ANY table that gives the words before.
 use mathlib.Core.Path.{_≡_, refl, sym, ap, subst, _∙_}
 use mathlib.Core.Bool.{Bool, true, false, not}
 use mathlib.Core.List.{List, [], _∷_, _++_, List·Memᴰ as Mem, List·Memᴰ·head as here, List·Memᴰ·tail as there, List·Memᴰ·not-nil as not-nil}
 use Prim.Native.Nat.{ℕ, suc, _+_, _*_, _/_, _%_, _≤_, _<_}
 use native.Mathlib.Omega.{arith}
-use native.Mathlib.Decide.{ℕ-discrete}
 use native.Mathlib.Nat.{le-trans}
 use lib.Dec.{T, leb, eqb, leb→le, eqb→eq, eqb-refl, nleb→lt, T-not, not-T}
 use lib.Arith.{lt→nleb}
@@ -24,7 +23,6 @@ use Rattle.layout.specs.Words.{entryWords, tripWords, words, rows, direc
 use Rattle.layout.specs.Refusals.{refuse, full, hasId, tableOf, isIndex, indexTests, buildOutcome, addOutcome, removeOutcome}
 use Rattle.layout.specs.Calls.{ifAccepted, After, after, leaving, buildOf, addOf, without, removeOf}
 use Rattle.layout.proofs.RowOrder.{OtherId, Distinct, layout-same, entries-same}
-use Rattle.layout.proofs.Slots.{same-id}
 use Rattle.layout.proofs.Rows.{rows-cons, rows-words, words-rows, words-cons, words-le}
 use Rattle.layout.proofs.Chains.{Room, refuse-no, refuse-pass, refuse-taken, of-outOfBounds, to-outOfBounds, of-badDirectory, to-badDirectory, of-hasId, of-noRoom, to-noRoom}
 use Rattle.layout.proofs.Edits.{entries-without}
@@ -229,48 +227,3 @@ module _ (s : Scale) (fair : Fair s) (x : Index) (ts : List Trip) (given : Table
     removed-is-built =
         leaving-accepted _ x _ a ∙ ap (after Accepted) (removed-same (lengthsOf x))
         ∙ sym (build-accepted s (without i ts) x (without-table s i ts (lengthsOf x) given))
-
--- ---- "Room freed by a removal serves the next addition."
-
--- the words after a removal
-removed-words : (s : Scale) (x : Index) (i : ℕ) → removeOutcome s x i ≡ Accepted → removeOf s x i .words
-    ≡ layout s (without i (tableOf s x)) (lengthsOf x)
-unfolding removeOf
-removed-words s x i a = ap (λ (r : After). r .words) (leaving-accepted _ x _ a)
-
--- a trip that was taken out can be put back at once, however little room the arenas have
-module _ (s : Scale) (fair : Fair s) (x : Index) (u : Trip) (m : Mem u (tableOf s x)) (a : removeOutcome s x (u .id) ≡ Accepted) where
-  back-words : Index
-  back-words = layout s (without (u .id) (tableOf s x)) (lengthsOf x)
-
-  pub add-back : addOutcome s (removeOf s x (u .id) .words) u ≡ Accepted
-  unfolding back-words
-  add-back =
-      let ts = tableOf s x in
-      let n = lengthsOf x in
-      let w = of-remove s x (u .id) a .is-index .table in
-      let d = w .rowsOk .distinct in
-      let wo = without-table s (u .id) ts n w in
-      let y = back-words in
-      let ly : lengthsOf y ≡ n = layout-lengths s (without (u .id) ts) n (wo .directory) (wo .room) in
-      let given : Table s (without (u .id) ts) (lengthsOf y) = rw ly wo in
-      let e : y ≡ layout s (without (u .id) ts) (lengthsOf y) = ap (layout s (without (u .id) ts)) (sym ly) in
-      let ix = indexed s fair (without (u .id) ts) y given e in
-      let f : In (tableOf s y) (without (u .id) ts) = table-in s fair y (without (u .id) ts) given e in
-      let g : In (without (u .id) ts) (tableOf s y) = in-table s fair y (without (u .id) ts) given e in
-      let same : length (tableOf s y) ≡ length (without (u .id) ts) = ap length (table-again s fair (without (u .id) ts) y given e)
-      ∙ back-length s fair (without (u .id) ts) (lengthsOf y) given in
-      let fresh : (v : Trip) → Mem v (tableOf s y) → v .id ≡ u .id → ⊥ = λ v k q. of-without (u .id) ts v (f v k) .1 q in
-      let whole : Distinct (u ∷ tableOf s y) = more (λ v k q. fresh v k (sym q)) (ix .table .rowsOk .distinct) in
-      let of-whole : In (u ∷ tableOf s y) ts = λ z k. elim k [ here q ↦ rw q m | there j ↦ of-without (u .id) ts z (f z j) .0 ] in
-      let to-whole : In ts (u ∷ tableOf s y) =
-      λ z k. elim (ℕ-discrete (z .id) (u .id)) [ yes q ↦ here (same-id d z u k m q) | no q ↦ there (g z (to-without (u .id) ts z k q)) ] in
-      rw (removed-words s x (u .id) a) (to-add s y u (record {
-        is-index = ix;
-        not-full = omega (arith, without-shorter ts u m, w .few, same);
-        rowOk = record { fits = w .rowsOk .fits u m; fresh = fresh; few = w .rowsOk .few u m };
-        room = rw ly (record {
-          for-originals = rw (entries-same s (u ∷ tableOf s y) ts whole d of-whole to-whole Originals) (w .room .for-originals);
-          for-replicas = rw (entries-same s (u ∷ tableOf s y) ts whole d of-whole to-whole Replicas) (w .room .for-replicas);
-        });
-      }))

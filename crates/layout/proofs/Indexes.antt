@@ -13,14 +13,15 @@ use Rattle.lists.proofs.Members.{In}
 use Rattle.lists.proofs.Padded.{padded-length}
 use Rattle.lists.proofs.Same.{same-eq, same-refl}
 use Rattle.lists.proofs.Upto.{length-upTo, getD-upTo}
-use Rattle.ruler.specs.Ruler.{Scale}
-use Rattle.ruler.proofs.Fair.{Fair}
+use Rattle.ruler.specs.declared.Numbers.{Numbers}
+use Rattle.ruler.specs.Ruler.{Scale, inBounds, scaleOf}
+use Rattle.ruler.proofs.Fair.{Fair, fair}
 use Rattle.trip.specs.declared.Trip.{Trip}
 use Rattle.layout.specs.declared.Half.{Half}
 use Rattle.layout.specs.declared.Half.the-variants.{Originals, Replicas}
 use Rattle.layout.specs.declared.Outcome.the-variants.{Accepted}
 use Rattle.layout.specs.Words.{words, rows, partitions, halfLength, directoryLength, entriesBefore, entries, directoryHalf, arena, Index, Lengths, lengthsOf, layout}
-use Rattle.layout.specs.Refusals.{isAccepted, buildOutcome, tableOf, sameIndex, gives, isIndex}
+use Rattle.layout.specs.Refusals.{isAccepted, buildOutcome, IndexOf, IndexOfSome, tableOf, sameIndex, gives, isIndex}
 use Rattle.layout.proofs.RowOrder.{Distinct, layout-same, entries-same, length-same}
 use Rattle.layout.proofs.Slots.{of-originals, to-originals, originals-distinct}
 use Rattle.layout.proofs.Rows.{rows-words, rows-front, words-length}
@@ -159,17 +160,26 @@ module _ (s : Scale) (fair : Fair s) (ts : List Trip) (x : Index) (w : Table s t
     words-are = rw table-again (e ∙ back-layout s fair ts (lengthsOf x) w (lengthsOf x));
   }
 
--- "the index of any table for this ruler and these lengths (a table means one that build accepts)"
-pub record IndexOfSome (s : Scale) (x : Index) : Type 0 where
-  pub table : List ℕ
-  pub accepted : buildOutcome s table (lengthsOf x) ≡ Accepted
-  pub words-are : x ≡ layout s (rows table) (lengthsOf x)
+-- what is known of a table that gives the words
+pub given-table : (s : Scale) (table : List ℕ) (x : Index) → IndexOf s table x → Table s (rows table) (lengthsOf x)
+given-table s table x g = of-build s table (lengthsOf x) (g .accepted) .0
 
+pub given-indexed : (s : Scale) → Fair s → (table : List ℕ) (x : Index) → IndexOf s table x → Indexed s x
+given-indexed s fair table x g = indexed s fair (rows table) x (given-table s table x g) (g .words-are)
+
+-- words that are an index are so for a ruler in bounds
+pub given-fair : (n : Numbers) (table : List ℕ) (x : Index) → IndexOf (scaleOf n) table x → Fair (scaleOf n)
+unfolding scaleOf
+given-fair n table x g = fair n (given-table (scaleOf n) table x g .good)
+
+-- "the index of any table for this ruler and these lengths (a table means one that build accepts)"
 pub index-of-some : (s : Scale) (x : Index) → T (isIndex s x) → IndexOfSome s x
 index-of-some s x t =
     let h = of-isIndex s x t in
-    record { table = words (tableOf s x); accepted = to-build s (tableOf s x) (lengthsOf x) (h .table); words-are = rw rows-words (h .words-are) }
+    record {
+      table = words (tableOf s x);
+      its-index = record { accepted = to-build s (tableOf s x) (lengthsOf x) (h .table); words-are = rw rows-words (h .words-are) };
+    }
 
 pub some-index : (s : Scale) → Fair s → (x : Index) → IndexOfSome s x → T (isIndex s x)
-some-index s fair x h =
-    to-isIndex s x (indexed s fair (rows (h .table)) x (of-build s (h .table) (lengthsOf x) (h .accepted) .0) (h .words-are))
+some-index s fair x h = to-isIndex s x (given-indexed s fair (h .table) x (h .its-index))

@@ -37,5 +37,9 @@ pub mod Edits
 pub mod SlotEdits
 pub mod RoomAdded
 pub mod Edited
+pub mod Given
+pub mod Left
+pub mod Freed
+pub mod Reordered
 -- document 01's examples
 pub mod Starred

@@ -3,7 +3,7 @@ use mathlib.Core.Path.{_≡_, refl, sym, ap, subst, _∙_, fun-ext}
 use mathlib.Core.Logic.{_⊎_, inl, inr}
 use mathlib.Core.Bool.{Bool, _&&_, _||_}
 use mathlib.Core.List.{List}
-use Prim.Native.Nat.{ℕ, _/_, _<_}
+use Prim.Native.Nat.{ℕ, _*_, _/_, _<_}
 use native.Mathlib.Omega.{arith}
 use native.Mathlib.Decide.{decLt}
 use lib.Dec.{T, ltb, eqb, ltb→lt, lt→ltb, eqb→eq, eqb-refl}
@@ -19,7 +19,7 @@ use Rattle.layout.specs.declared.Half.the-variants.{Originals, Replicas}
 use Rattle.layout.specs.declared.Subdivision.{Subdivision}
 use Rattle.layout.specs.declared.Subdivision.the-variants.{RAft}
 use Rattle.layout.specs.Stored.{belongs}
-use Rattle.layout.specs.Words.{order, levelOf, placeOf, slotTrips, subdivisionAt, slot, entriesBefore, entries, directoryHalf, arena, Lengths, layout}
+use Rattle.layout.specs.Words.{order, partitions, levelOf, placeOf, slotTrips, subdivisionAt, slot, entriesBefore, entries, directoryHalf, arena, Lengths, layout}
 use Rattle.layout.proofs.Keys.{keyOf, order-keyed}
 
 -- no id twice
@@ -127,9 +127,13 @@ module _ (s : Scale) (ts us : List Trip) (n : Distinct ts) (e : Distinct us) (f 
   unfolding slot
   slot-same h = fun-ext λ k. slotTrips-same _ _ _
 
+  pub before-same : (h : Half) (k : ℕ) → entriesBefore s h ts k ≡ entriesBefore s h us k
+  unfolding entriesBefore
+  before-same h k = rw (slot-same h)
+
   pub entries-same : (h : Half) → entries s h ts ≡ entries s h us
-  unfolding entries entriesBefore
-  entries-same h = rw (slot-same h)
+  unfolding entries
+  entries-same h = before-same h (2 * partitions (s .m))
 
   pub layout-same : (k : Lengths) → layout s ts k ≡ layout s us k
   unfolding layout directoryHalf arena entries entriesBefore

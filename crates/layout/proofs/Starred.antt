@@ -1,16 +1,33 @@
--- The starred examples of document 01, as one statement over one list of tests, by computing all of them.
+-- The starred examples of document 01, as one statement over one list of them: all but the night's index by computing.
+use mathlib.Core.Path.{_≡_, refl}
+use mathlib.Core.List.{List, [], _∷_}
+use Prim.Native.Nat.{ℕ}
 use lib.Dec.{T}
 use Rattle.lists.specs.Lists.{every, same, count, padded, keep, insert, sort, joined, upTo, over}
 use Rattle.ruler.specs.Ruler.{inBounds, scaleOf, cellUp, judge}
+use Rattle.trip.specs.declared.Relationship.the-variants.{GOverlaps}
 use Rattle.trip.specs.Relationships.{codeOf, related}
+use Rattle.layout.specs.declared.Outcome.the-variants.{Accepted}
 use Rattle.layout.specs.Stored.{partitionsAt, firstCell, lastCell, within, holds, holdsTrip, isOriginal, isIn, subdivisionOf, isOf, belongs}
 use Rattle.layout.specs.Words.{entryWords, tripWords, tripAt, words, rows, partitions, directoryLength, halfLength, partitionNumber, levelOf, placeOf, slotNumber, byId, byStart, byEnd, order, slotTrips, slot, entriesBefore, entries, directoryHalf, arena, lengthsOf, layout}
-use Rattle.layout.specs.Answers.{matches, answer, answerTo, subdivisionNumber, subdivisionNumbered, levelCount, levelRow, census, halfOf, isAft, runWords, runFrom}
+use Rattle.layout.specs.Answers.{matches, answer, question, answerTo, subdivisionNumber, subdivisionNumbered, levelCount, levelRow, census, halfOf, isAft, runWords, runFrom}
 use Rattle.layout.specs.Refusals.{isAccepted, refuse, outOfBounds, badSize, full, badDirectory, offRuler, backward, hasId, noRoom, exceeds, noSuchCode, partitionsHolding, inTooMany, noSuchSlot, timeTests, rowTests, firstBadRow, buildOutcome, tableOf, sameIndex, gives, isIndex, indexTests, addOutcome, removeOutcome, windowTests, roomTest, askOutcome, runOutcome, checkOutcome}
 use Rattle.layout.specs.Calls.{ifAccepted, leaving, buildOf, addOf, without, removeOf, askOf, noCensus, censusOf, runOf, runFromOf}
-use Rattle.layout.specs.Examples.{ruler, trip, window, seven, three, nine, four, theIndex, cells, stored, inAll, is, lists, refuses, nightIds, asRow, asWindow, starred, fullness}
+use Rattle.layout.specs.Examples.{ruler, trip, window, seven, three, nine, four, theIndex, cells, stored, inAll, is, lists, refuses, night, nightLists, asRow, asWindow, AllHold, none, more, starred, fullness}
+use Rattle.layout.proofs.Left.{built-asked}
 
-pub starred-hold : T (every starred)
+-- what the night's index lists, whatever the buffers: its ids are those of the table, which compute
+night-lists : (start end : ℕ) (ids : List ℕ) → windowTests (ruler 18 10) (window start end) Accepted ≡ Accepted
+    → answer (question GOverlaps (window start end)) (night ∷ []) ≡ ids → nightLists start end ids
+unfolding nightLists ruler
+night-lists start end ids on-ruler right = built-asked (record { w = 18; m = 10 }) (night ∷ []) GOverlaps (window start end) ids on-ruler right
+
+-- one statement more of a list (as a function, so that each proof is read at its own statement)
+infixr 5 _also_
+_also_ : {statement : Type 0} {l : List (Type 0)} → statement → AllHold l → AllHold (statement ∷ l)
+_also_ p rest = more p rest
+
+pub starred-hold : AllHold starred
 unfolding every same count padded keep insert sort joined upTo inBounds scaleOf cellUp judge codeOf related partitionsAt firstCell lastCell within
     holds holdsTrip isOriginal isIn subdivisionOf isOf belongs entryWords tripWords tripAt words rows partitions directoryLength halfLength
     partitionNumber levelOf placeOf slotNumber byId byStart byEnd order slotTrips slot entriesBefore entries directoryHalf arena lengthsOf layout
@@ -18,8 +35,16 @@ unfolding every same count padded keep insert sort joined upTo inBounds scaleOf 
     outOfBounds badSize full badDirectory offRuler backward hasId noRoom exceeds noSuchCode partitionsHolding inTooMany noSuchSlot timeTests rowTests
     firstBadRow buildOutcome tableOf sameIndex gives isIndex indexTests addOutcome removeOutcome windowTests roomTest askOutcome runOutcome
     checkOutcome ifAccepted leaving buildOf addOf without removeOf askOf noCensus censusOf runOf runFromOf ruler trip window seven three nine four
-    theIndex cells stored inAll is lists refuses nightIds asRow asWindow starred fullness
-starred-hold = tt
+    theIndex cells stored inAll is lists refuses night asRow asWindow starred
+starred-hold =
+    (refl, refl) also tt also tt also tt also refl
+    also tt also refl also tt also refl also tt also tt also refl
+    also refl also (refl, refl) also refl
+    also refl also refl also refl
+    also refl also refl
+    also (refl, refl) also (refl, refl) also (refl, refl) also (refl, refl)
+    also (refl, refl) also night-lists _ _ _ refl refl also night-lists _ _ _ refl refl also (refl, refl) also (refl, refl)
+    also none
 
 -- the edge of a full index, computed on tables of 4,095 and 4,096 trips
 pub fullness-holds : T (every fullness)

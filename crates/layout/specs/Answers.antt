@@ -9,6 +9,7 @@ use Rattle.ruler.specs.Ruler.{Scale, deepest}
 use Rattle.trip.specs.declared.Trip.{Trip}
 use Rattle.trip.specs.declared.Window.{Window}
 use Rattle.trip.specs.declared.Question.{Question}
+use Rattle.trip.specs.declared.Relationship.{Relationship}
 use Rattle.trip.specs.declared.Named.{Named}
 use Rattle.trip.specs.declared.Named.the-variants.{As, Nothing}
 use Rattle.trip.specs.Relationships.{related}
@@ -26,9 +27,12 @@ matches q ts = keep (related (q .relationship) (q .window)) ts
 unfoldable pub answer : Question → List Trip → List ℕ
 answer q ts = ascending (map (λ (t : Trip). t .id) (matches q ts))
 
+abbrev pub question : Relationship → Window → Question
+question r w = record { window = w; relationship = r }
+
 -- the same by what a code names; a code that names nothing lists nothing
 unfoldable pub answerTo : Named → Window → List Trip → List ℕ
-answerTo (As r) w ts = answer (record { window = w; relationship = r }) ts
+answerTo (As r) w ts = answer (question r w) ts
 answerTo Nothing w ts = []
 
 -- "O_in, O_aft, R_in, R_aft (subdivisions 0 to 3)"

@@ -1,11 +1,12 @@
--- Document 01, "Checked examples": the starred ones, in one list of tests that compute. That all of them pass is one statement
+-- Document 01, "Checked examples": the starred ones, in one list of statements. That all of them hold is one statement
 -- (proofs/Starred.antt). The others are run by the program `cases`.
-use mathlib.Core.Bool.{Bool, not, _&&_}
+use mathlib.Core.Path.{_≡_}
+use mathlib.Core.Bool.{Bool, not}
 use mathlib.Core.List.{List, [], _∷_}
-use Prim.Native.Nat.{ℕ}
-use lib.Dec.{eqb}
+use Prim.Native.Nat.{ℕ, _≤_}
+use lib.Dec.{T}
 use lib.ListN.{length, replicate}
-use Rattle.lists.specs.Lists.{same, over}
+use Rattle.lists.specs.Lists.{over}
 use Rattle.ruler.specs.Ruler.{Scale, timeAt, scaleOf}
 use Rattle.trip.specs.declared.Trip.{Trip}
 use Rattle.trip.specs.declared.Window.{Window}
@@ -18,9 +19,8 @@ use Rattle.layout.specs.declared.Outcome.{Outcome}
 use Rattle.layout.specs.declared.Outcome.the-variants.{Accepted}
 use Rattle.layout.specs.Stored.{belongs}
 use Rattle.layout.specs.Words.{Index, Lengths, words, directoryLength, layout}
-use Rattle.layout.specs.Answers.{answer}
 use Rattle.layout.specs.Refusals.{numberOf, detailOf, full, partitionsHolding, buildOutcome, windowTests, askOutcome}
-use Rattle.layout.specs.Calls.{askOf}
+use Rattle.layout.specs.Calls.{buildOf, asked, askOf}
 
 -- ---- "Ruler w = 6, m = 4; trips 7 [21,38], 3 [20,20], 9 [0,63], 4 [39,40]."
 
@@ -49,49 +49,60 @@ four = trip 4 39 40
 unfoldable pub theIndex : Index
 theIndex = layout (ruler 6 4) (seven ∷ three ∷ nine ∷ four ∷ []) (record { directory = directoryLength 4; originals = 12; replicas = 24 })
 
--- ---- the tests
+-- ---- the statements
 
 -- the trip's cells at level m are a..b
-unfoldable pub cells : Trip → (a b : ℕ) → Bool
-cells t a b = eqb (ruler 6 4 .cell (t .start)) a && eqb (ruler 6 4 .cell (t .end)) b
+unfoldable pub cells : Trip → (a b : ℕ) → Type 0
+cells t a b = (ruler 6 4 .cell (t .start) ≡ a) × (ruler 6 4 .cell (t .end) ≡ b)
 
 -- the trip has an entry in partition i of level L, under this subdivision; and n entries in all
-unfoldable pub stored : Trip → (L i : ℕ) → Subdivision → Bool
-stored t L i d = belongs (ruler 6 4) d L i t
+unfoldable pub stored : Trip → (L i : ℕ) → Subdivision → Type 0
+stored t L i d = T (belongs (ruler 6 4) d L i t)
 
-unfoldable pub inAll : Trip → (n : ℕ) → Bool
-inAll t n = eqb (partitionsHolding (ruler 6 4) t) n
+unfoldable pub inAll : Trip → (n : ℕ) → Type 0
+inAll t n = partitionsHolding (ruler 6 4) t ≡ n
 
 -- an outcome is this number with this detail
-unfoldable pub is : Outcome → (number detail : ℕ) → Bool
-is o number detail = eqb (numberOf o) number && eqb (detailOf o) detail
+unfoldable pub is : Outcome → (number detail : ℕ) → Type 0
+is o number detail = (numberOf o ≡ number) × (detailOf o ≡ detail)
 
 -- a question to the index, with room for four ids, is accepted and lists these; the words after them stay
-unfoldable pub lists : Relationship → (start end : ℕ) → (ids : List ℕ) → Bool
+unfoldable pub lists : Relationship → (start end : ℕ) → (ids : List ℕ) → Type 0
 lists r s e ids =
-    let a = askOf (ruler 6 4) theIndex (codeOf r) (window s e) (replicate 4 100) in
-    is (a .outcome) 0 0 && (eqb (a .count) (length ids) && same (a .answers) (over ids (replicate 4 100)))
+    askOf (ruler 6 4) theIndex (codeOf r) (window s e) (replicate 4 100) ≡ asked Accepted (length ids) (over ids (replicate 4 100))
 
 -- a question under code 13, with room for four ids, gives this number
-unfoldable pub refuses : (start end number : ℕ) → Bool
+unfoldable pub refuses : (start end number : ℕ) → Type 0
 refuses s e n = is (askOutcome (ruler 6 4) theIndex (codeOf GOverlaps) (window s e) 4) n 0
 
 -- ---- "w = 18, m = 10: 23:40:00 to 25:10:00 is [85200,90600]"
 
--- the ids that a table of this one trip lists under code 13 (the index itself has 8,190 directory words)
-unfoldable pub nightIds : Window → List ℕ
-nightIds w = answer (record { window = w; relationship = GOverlaps }) (trip 1 85200 90600 ∷ [])
+unfoldable pub night : Trip
+night = trip 1 85200 90600
 
--- a trip with these times as the only row of a table, and a window with these times
-unfoldable pub asRow : (start end : ℕ) → Outcome
-asRow s e = buildOutcome (ruler 18 10) (words (trip 1 s e ∷ [])) (record { directory = directoryLength 10; originals = 3; replicas = 60 })
+-- a question under code 13 to the index that a build of this one trip has left, in whatever buffers: with room for the ids it is accepted and
+-- lists these (the directory alone has 8,190 words: the statement speaks of every index, and lays none out)
+unfoldable pub nightLists : (start end : ℕ) → (ids : List ℕ) → Type 0
+nightLists s e ids =
+    (x : Index) (list : List ℕ) → buildOf (ruler 18 10) (words (night ∷ [])) x .outcome ≡ Accepted → length ids ≤ length list
+    → askOf (ruler 18 10) (buildOf (ruler 18 10) (words (night ∷ [])) x .words) (codeOf GOverlaps) (window s e) list
+    ≡ asked Accepted (length ids) (over ids list)
+
+-- a trip as the only row of a table, and a window with these times
+unfoldable pub asRow : Trip → Outcome
+asRow t = buildOutcome (ruler 18 10) (words (t ∷ [])) (record { directory = directoryLength 10; originals = 3; replicas = 60 })
 
 unfoldable pub asWindow : (start end : ℕ) → Outcome
 asWindow s e = windowTests (ruler 18 10) (window s e) Accepted
 
 -- ---- the starred examples
 
-unfoldable pub starred : List Bool
+-- every statement of a list holds
+pub data AllHold : List (Type 0) → Type 1 where
+  none : AllHold []
+  more : {statement : Type 0} {l : List (Type 0)} → statement → AllHold l → AllHold (statement ∷ l)
+
+unfoldable pub starred : List (Type 0)
 starred =
     -- "Trip 7 has cells 5..9 (000, 003): level 4 partition 5 O_aft; level 3 partition 3 R_aft, partition 4 R_in."
     cells seven 5 9
@@ -110,7 +121,7 @@ starred =
     -- "Code 13 [22,23]: 7, 9. Trip 3 shares the cell and is not listed."
     ∷ lists GOverlaps 22 23 (7 ∷ 9 ∷ [])
     ∷ cells three 5 5
-    ∷ eqb (ruler 6 4 .cell (timeAt 22)) 5
+    ∷ (ruler 6 4 .cell (timeAt 22) ≡ 5)
     -- "Code 13 [38,39]: 4, 7, 9." "BEFORE [0,20]: 4, 7." "AFTER [39,63]: 3, 7."
     ∷ lists GOverlaps 38 39 (4 ∷ 7 ∷ 9 ∷ [])
     ∷ lists Before 0 20 (4 ∷ 7 ∷ [])
@@ -124,10 +135,10 @@ starred =
     ∷ refuses 63 63 0
     ∷ refuses 63 64 4
     -- "w = 18, m = 10: 23:40:00 to 25:10:00 is [85200,90600], found by [88200,88800] and not by [1800,2400]. Wrapped, [85200,4200] gives 5."
-    ∷ is (asRow 85200 90600) 0 0
-    ∷ same (nightIds (window 88200 88800)) (1 ∷ [])
-    ∷ same (nightIds (window 1800 2400)) []
-    ∷ is (asRow 85200 4200) 5 0
+    ∷ is (asRow night) 0 0
+    ∷ nightLists 88200 88800 (1 ∷ [])
+    ∷ nightLists 1800 2400 []
+    ∷ is (asRow (trip 1 85200 4200)) 5 0
     ∷ is (asWindow 85200 4200) 5 0
     ∷ []
 

@@ -1,5 +1,6 @@
 -- Document 01, "Numbers of refusal", as definitions: the numbers, when each is given, and the order of each call. Every test is a
 -- Bool and computes.
+use mathlib.Core.Path.{_≡_}
 use mathlib.Core.Bool.{Bool, true, false, not, _&&_, _||_}
 use mathlib.Core.List.{List, [], _∷_}
 use Prim.Native.Nat.{ℕ, suc, _+_, _*_, _/_, _%_}
@@ -139,9 +140,18 @@ buildOutcome s table n =
     (firstBadRow s 0 [] (rows table)
     (refuse (noRoom s (rows table) n) NoRoom 0 Accepted))))
 
--- 8 "directory and arenas aren't the index of any table for this ruler and these lengths (a table means one that build accepts)".
--- The test reads the trips off the originals arena, as many as the last word of the originals half says, and compares: it passes
--- exactly where some table that build accepts gives these words (the laws `index-of-some` and `some-index`).
+-- 8 "directory and arenas aren't the index of any table for this ruler and these lengths (a table means one that build accepts)": words that are
+-- the index of this table, and of some table
+pub record IndexOf (s : Scale) (table : List ℕ) (x : Index) : Type 0 where
+  pub accepted : buildOutcome s table (lengthsOf x) ≡ Accepted
+  pub words-are : x ≡ layout s (rows table) (lengthsOf x)
+
+pub record IndexOfSome (s : Scale) (x : Index) : Type 0 where
+  pub table : List ℕ
+  pub its-index : IndexOf s table x
+
+-- The test of 8 computes. It reads the trips off the originals arena, as many as the last word of the originals half says, and compares: it
+-- passes exactly where some table that build accepts gives these words (the laws `index-of-some` and `some-index`).
 unfoldable pub tableOf : Scale → Index → List Trip
 tableOf s x = take (getD (x .directory) (2 * partitions (s .m)) 0) (rows (x .originals))
 

@@ -1,6 +1,8 @@
 -- Document 01, "Words of the index", as definitions. Every test is a Bool and computes.
+use mathlib.Core.Path.{_≡_}
+use mathlib.Core.Logic.{_↔_}
 use mathlib.Core.Bool.{Bool, true, false, cond, _&&_, _||_}
-use mathlib.Core.List.{List, [], _∷_, _++_}
+use mathlib.Core.List.{List, [], _∷_, _++_, List·Memᴰ as Mem}
 use Prim.Native.Nat.{ℕ, zero, suc, _+_, _-_, _*_, _/_, _%_, _^_}
 use lib.Dec.{leb, ltb, eqb}
 use lib.ListN.{length, getD}
@@ -35,6 +37,11 @@ words (t ∷ ts) = tripWords t ++ words ts
 
 unfoldable pub rows : List ℕ → List Trip
 rows l = upTo (tripAt l) (length l / entryWords)
+
+-- "So row order in the table has no influence on the index": tables with the same rows, in whatever order
+pub record Reordered (a b : List ℕ) : Type 0 where
+  pub as-long : length a ≡ length b
+  pub same-rows : (t : Trip) → Mem t (rows a) ↔ Mem t (rows b)
 
 -- "With P = 2^(m+1) − 1"
 unfoldable pub partitions : (m : ℕ) → ℕ

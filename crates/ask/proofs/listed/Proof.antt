@@ -12,11 +12,12 @@ use Rattle.layout.specs.Words.{partitions}
 use Rattle.layout.specs.Answers.{answer}
 use Rattle.layout.specs.Refusals.{tableOf, roomTest}
 use Rattle.layout.specs.Calls.{index}
+use Rattle.layout.proofs.Chains.{of-room}
 use Rattle.store.specs.Entries.{ids}
 use Rattle.ask.specs.Chain.{listedOf}
 use Rattle.ask.proofs.Written.{listed-length}
 use Rattle.ask.proofs.Questions.{window-near, listing-answer, listing-length, listing-few, trips-few, trips-word, trips-in, same-there, same-listing}
-use Rattle.ask.proofs.Endings.{of-room, ends-refused, ends-accepted, sorted-over}
+use Rattle.ask.proofs.Endings.{ends-refused, ends-accepted, sorted-over}
 use native.Mathlib.Omega.{arith}
 use borrow.Author.Needs.{needs}
 use Rattle.ask.proofs.listed.Statement.{statement}

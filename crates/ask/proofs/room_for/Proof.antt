@@ -1,6 +1,6 @@
 -- The test of 7, made on the count where the trips alone do not settle it.
 use mathlib.Core.Path.{sym}
-use Rattle.ask.proofs.Endings.{has-room, no-room}
+use Rattle.layout.proofs.Chains.{has-room, no-room}
 use mathlib.Core.Path.{sym, ap, _∙_}
 use native.Mathlib.Omega.{arith}
 use borrow.Author.Needs.{needs}

@@ -1,7 +1,7 @@
--- None of the entries cut off matches: those in front are too early, and those behind too late.
+-- The entries in front are too early, those behind too late, and those between in time.
 use mathlib.Core.Path.{_≡_}
 use Rattle.layout.specs.Words.{entryWords}
-use Rattle.ask.proofs.Searched.{within-keeps}
+use Rattle.ask.proofs.Searched.{within-is}
 use native.Mathlib.Omega.{arith}
 use borrow.Author.Needs.{needs}
 use Rattle.ask.proofs.cut.within.Statement.{statement}
@@ -46,7 +46,7 @@ returns c =
     let g = c .before .before .before .before .before .before .args in
     let from = rw (c .before .before .before .before .span-of .ensures) at (c .before .before .before .entries-before .ensures) in
     let until = rw (c .before .before .before .before .span-of .ensures) at (c .before .before .entries-before2 .ensures) in
-    within-keeps (g .ends) (g .bounds) (g .part .now) _ _ _ from until (omega arith) (omega arith) (from .inside)
+    within-is (g .ends) (g .bounds) (g .part .now) _ _ _ from until (omega arith) (omega arith) (from .inside) (λ j h k. omega arith)
 
 mul-result-4 : tie.Need-mul-result-4
 unfolding entryWords
@@ -78,7 +78,7 @@ returns-2 c =
     let g = c .before .before .before .before .before .before .args in
     let from = rw (c .before .before .before .before .span-of .ensures) at (c .before .before .before .entries-before .ensures) in
     let until = rw (c .before .before .before .before .span-of .ensures) at (c .before .before .entries-before2 .ensures) in
-    within-keeps (g .ends) (g .bounds) (g .part .now) _ _ _ from until (omega arith) (omega arith) (until .inside)
+    within-is (g .ends) (g .bounds) (g .part .now) _ _ _ from until (omega arith) (omega arith) (until .inside) (λ j h k. k)
 
 pub within-spec : {M : Type 1} → statement M
 within-spec =

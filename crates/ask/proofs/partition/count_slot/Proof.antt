@@ -3,6 +3,7 @@ use mathlib.Core.Path.{ap, _∙_}
 use lib.ListN.{length}
 use Rattle.layout.specs.Words.{entryWords}
 use Rattle.ask.specs.Part.{stretchWords}
+use Rattle.ask.proofs.Searched.{cut-matches}
 use borrow.Author.Needs.{needs}
 use Rattle.ask.proofs.partition.count_slot.Statement.{statement}
 use Rattle.ask.proofs.partition.count_slot.Tie as tie
@@ -58,7 +59,7 @@ count-tested-requires c κs = search needs
 
 returns : tie.Need-returns
 unfolding stretchWords entryWords
-returns c = c .count-tested .ensures ∙ ap length (c .before .cut .ensures)
+returns c = c .count-tested .ensures ∙ ap length (cut-matches _ _ _ _ (c .before .cut .ensures))
 
 pub count-slot-spec : {M : Type 1} → statement M
 count-slot-spec =

@@ -5,6 +5,7 @@ use Rattle.layout.specs.Words.{entryWords}
 use Rattle.ask.specs.Part.{stretchWords}
 use Rattle.ask.proofs.Written.{lent-room, lent-back}
 use native.Mathlib.Omega.{arith}
+use Rattle.ask.proofs.Searched.{cut-matches}
 use borrow.Author.Needs.{needs}
 use Rattle.ask.proofs.partition.list_slot.Statement.{statement}
 use Rattle.ask.proofs.partition.list_slot.Tie as tie
@@ -70,12 +71,12 @@ part-list-tested-end c = search needs
 list-tested-requires : tie.Need-list-tested-requires
 unfolding stretchWords entryWords
 list-tested-requires c κs = let s = c .before .before .before .before .before .before .before .before in
-    rw (c .before .cut .ensures) (lent-room (s .args .out .now) (s .args .n) _ (s .pre .1 .1))
+    rw (cut-matches _ _ _ _ (c .before .cut .ensures)) (lent-room (s .args .out .now) (s .args .n) _ (s .pre .1 .1))
 
 add-result : tie.Need-add-result
 unfolding stretchWords entryWords
 add-result c = let s = c .before .before .before .before .before .before .before .before .before .before .before in
-    omega (arith, c .before .before .list-tested .ensures .counted, ap length (c .before .before .before .before .cut .ensures), s .pre .1 .1)
+    omega (arith, c .before .before .list-tested .ensures .counted, ap length (cut-matches _ _ _ _ (c .before .before .before .before .cut .ensures)), s .pre .1 .1)
 
 same-length : tie.Need-same-length
 same-length c = search needs
@@ -83,7 +84,7 @@ same-length c = search needs
 returns : tie.Need-returns
 unfolding stretchWords entryWords
 returns c = let g = c .before .before .before .before .before .before .before .before .before .before .before .args in
-    lent-back (g .out .now) (g .n) (rw (c .before .before .before .before .cut .ensures) at (c .before .before .list-tested .ensures))
+    lent-back (g .out .now) (g .n) (rw (cut-matches _ _ _ _ (c .before .before .before .before .cut .ensures)) at (c .before .before .list-tested .ensures))
 
 pub list-slot-spec : {M : Type 1} → statement M
 list-slot-spec =

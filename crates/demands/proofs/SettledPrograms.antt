@@ -1,0 +1,67 @@
+-- The same for what programs call: the C functions, and a turn of the session.
+use mathlib.Core.Path.{_≡_, sym, ap, _∙_}
+use mathlib.Core.List.{List}
+use Prim.Native.Nat.{ℕ}
+use Rattle.layout.specs.Words.{Index}
+use Rattle.export.specs.Said.{Left, left, Heard, told, Counted, counted, buildSaid, checkSaid, addSaid, removeSaid, askSaid, censusSaid, runSaid}
+use Rattle.text.specs.Command.{commandOf}
+use Rattle.dialogue.specs.declared.Turned.{Turned}
+use Rattle.dialogue.specs.Session.{State, state, Turn, Done, turnOf}
+use Rattle.demands.specs.Settled.{One, OneLeft, OneHeard, OneCounted, OneTurn}
+use Rattle.demands.proofs.Settled.{settled}
+
+-- ---- the C functions
+
+one-left : (said : Left) → OneLeft said
+one-left said r q y z e f =
+    let same = settled said (left r y) (left q z) e f in
+    (ap (λ (a : Left). a .said) same, ap (λ (a : Left). a .words) same)
+
+one-heard : (said : Heard) → OneHeard said
+one-heard said t u l m e f =
+    let same = settled said (told t l) (told u m) e f in
+    (ap (λ (a : Heard). a .told) same, ap (λ (a : Heard). a .answers) same)
+
+one-counted : (said : Counted) → OneCounted said
+one-counted said r q c d e f =
+    let same = settled said (counted r c) (counted q d) e f in
+    (ap (λ (a : Counted). a .said) same, ap (λ (a : Counted). a .counts) same)
+
+module _ (w m : ℕ) (x : Index) where
+  pub kheyambo-build-settled : (table : List ℕ) → OneLeft (buildSaid w m table x)
+  kheyambo-build-settled table = one-left (buildSaid w m table x)
+
+  pub kheyambo-check-settled : One (checkSaid w m x)
+  kheyambo-check-settled = settled (checkSaid w m x)
+
+  pub kheyambo-add-settled : (id start end : ℕ) → OneLeft (addSaid w m id start end x)
+  kheyambo-add-settled id start end = one-left (addSaid w m id start end x)
+
+  pub kheyambo-remove-settled : (id : ℕ) → OneLeft (removeSaid w m id x)
+  kheyambo-remove-settled id = one-left (removeSaid w m id x)
+
+  pub kheyambo-ask-settled : (code start end : ℕ) (list : List ℕ) → OneHeard (askSaid w m code start end x list)
+  kheyambo-ask-settled code start end list = one-heard (askSaid w m code start end x list)
+
+  pub kheyambo-census-settled : OneCounted (censusSaid w m x)
+  kheyambo-census-settled = one-counted (censusSaid w m x)
+
+  pub kheyambo-run-settled : (L i d : ℕ) → One (runSaid w m L i d x)
+  kheyambo-run-settled L i d = settled (runSaid w m L i d x)
+
+-- ---- a turn of the session
+
+one-turn : (said : Turn) (reply : List ℕ) → OneTurn said reply
+one-turn said reply r q y z l m bytes others a b =
+    let same = settled (said .next) (state (r .desk) y l) (state (q .desk) z m) (a .next) (b .next) in
+    let desk = ap (λ (s : State). s .desk) same in
+    let goes = a .goes ∙ sym (b .goes) in
+    let count = a .count ∙ sym (b .count) in (
+      (λ i. record { desk = desk i; written = count i; more = goes i }),
+      ap (λ (s : State). s .words) same,
+      ap (λ (s : State). s .answers) same,
+      a .bytes ∙ sym (b .bytes),
+    )
+
+pub turn-settled : (s : State) (line reply : List ℕ) → OneTurn (turnOf s (commandOf line)) reply
+turn-settled s line reply = one-turn (turnOf s (commandOf line)) reply
