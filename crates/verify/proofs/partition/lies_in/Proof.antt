@@ -1,6 +1,6 @@
 -- The first and the last cell of the partition, which are small numbers.
 use Rattle.layout.specs.Stored.{within, firstCell, lastCell}
-use Rattle.verify.proofs.Places.{small}
+use Rattle.ruler.proofs.Small.{small}
 use native.Mathlib.Omega.{arith}
 use borrow.Author.Needs.{needs}
 use Rattle.verify.proofs.partition.lies_in.Statement.{statement}
