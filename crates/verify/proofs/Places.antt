@@ -1,12 +1,12 @@
 -- The partitions of a level, as the code computes them: the bounds of a partition's cells, the test of its parent, and the level of a
 -- partition's number found from the deepest level up.
-use mathlib.Core.Path.{_≡_, refl, sym, ap, _∙_}
+use mathlib.Core.Path.{_≡_, refl, ap}
 use mathlib.Core.Bool.{not, _&&_}
 use Prim.Native.Nat.{ℕ, zero, suc, _+_, _-_, _*_, _/_, _^_, _≤_, _<_}
-use native.Mathlib.Nat.{mul-le-mul-right, two-pow-succ, le-trans}
+use native.Mathlib.Nat.{two-pow-succ, le-trans}
 use native.Mathlib.Numerals.{add-one}
 use native.Mathlib.Omega.{arith}
-use lib.Pow.{pow-pos, pow-mono, pow-add}
+use lib.Pow.{pow-pos, pow-mono}
 use borrow.Author.Tests.{le-leb, lt-leb}
 use Rattle.ruler.specs.Ruler.{deepest}
 use Rattle.layout.specs.Stored.{within, holds}
@@ -15,7 +15,7 @@ use Rattle.layout.proofs.Numbers.{Numbered, numbered}
 
 -- ---- one partition
 
-pub holds-top : (m L i a b : ℕ) → L ≡ 0 → holds m L i a b ≡ within m 0 i a b
+pub holds-top : (m L i a b : ℕ) → L ≡ 0 → holds m L i a b ≡ within m L i a b
 unfolding holds
 holds-top m zero i a b e = refl
 holds-top m (suc L) i a b e = absurd (omega arith)
