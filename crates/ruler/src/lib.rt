@@ -69,12 +69,6 @@ impl Cell {
         self.0
     }
 
-    pub fn number(self) -> u32
-        ensures { λ r. ⌜ r ≡ self .1 ⌝ }
-    {
-        self.1
-    }
-
     pub fn same(self, other: Cell) -> bool
         requires { ⌜ self .0 ≡ other .0 ⌝ }
         ensures { λ r. ⌜ r ≡ sameCell self other ⌝ }

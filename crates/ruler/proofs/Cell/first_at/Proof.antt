@@ -12,7 +12,9 @@ power-requires : tie.Need-power-requires
 power-requires c κs = search needs
 
 mul-t5 : tie.Need-mul-t5
-mul-t5 c = let b = small _ _ (c .before .before .before .args .self .1) _ (omega arith) (omega arith) (omega arith) (c .before .power .ensures) in omega arith
+mul-t5 c =
+    let g = c .before .before .before .args in
+    let b = small _ _ (g .self .1) _ (omega arith) (omega arith) (omega arith) (c .before .power .ensures) in omega arith
 
 returns : tie.Need-returns
 returns c = rw (c .before .power .ensures)

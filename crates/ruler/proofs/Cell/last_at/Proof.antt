@@ -18,10 +18,12 @@ power-requires : tie.Need-power-requires
 power-requires c κs = search needs
 
 mul-t6 : tie.Need-mul-t6
-mul-t6 c = let b = small _ _ (c .before .before .before .args .self .1) _ (omega arith) (omega arith) (omega arith) (c .power .ensures) in omega arith
+mul-t6 c =
+    let b = small _ _ (c .before .before .before .args .self .1) _ (omega arith) (omega arith) (omega arith) (c .power .ensures) in omega arith
 
 sub-t7 : tie.Need-sub-t7
-sub-t7 c = let b = small _ _ (c .before .before .before .args .self .1) _ (omega arith) (omega arith) (omega arith) (c .power .ensures) in omega arith
+sub-t7 c =
+    let b = small _ _ (c .before .before .before .args .self .1) _ (omega arith) (omega arith) (omega arith) (c .power .ensures) in omega arith
 
 returns : tie.Need-returns
 returns c = rw (c .power .ensures)

@@ -3,7 +3,6 @@ use mathlib.Core.Path.{ap, _∙_}
 use Rattle.ruler.specs.Ruler.{scaleOf, scale, cellOf}
 use Rattle.ruler.proofs.Levels.{up-bottom}
 use native.Mathlib.Omega.{arith}
-use borrow.Author.Needs.{needs}
 use Rattle.ruler.proofs.Ruler.bottom_cell.Statement.{statement}
 use Rattle.ruler.proofs.Ruler.bottom_cell.Tie as tie
 

@@ -10,7 +10,9 @@ no-later-requires : tie.Need-no-later-requires
 no-later-requires c κs = search needs
 
 returns : tie.Need-returns
-returns c = let e : c .before .before .args .to .1 ≤ c .before .before .args .from .1 = leb-true _ _ (rw (c .before .no-later .ensures) at (c .if1 .taken)) in (omega arith, omega arith)
+returns c =
+    let g = c .before .before .args in
+    let e : g .to .1 ≤ g .from .1 = leb-true _ _ (rw (c .before .no-later .ensures) at (c .if1 .taken)) in (omega arith, omega arith)
 
 parity-requires : tie.Need-parity-requires
 parity-requires c κs = search needs

@@ -1,8 +1,11 @@
 -- The walk up the levels.
-use mathlib.Core.Path.{_≡_, refl}
+use mathlib.Core.Path.{_≡_, refl, sym}
 use Prim.Native.Nat.{ℕ, suc, _+_, _-_, _*_, _^_, _≤_, _<_}
 use borrow.Author.Tests.{leb-true, leb-false}
-use Rattle.ruler.specs.Ruler.{deepest, scale}
+use Rattle.ruler.specs.declared.Cell.{Cell}
+use Rattle.ruler.specs.Ruler.{Scale, deepest, scale, bottomCell, nextCell}
+use Rattle.trip.specs.declared.Trip.{Trip}
+use Rattle.layout.specs.Refusals.{partitionsHolding}
 use Rattle.layout.proofs.ByLevel.{heldAbove, held-in-all}
 use Rattle.layout.proofs.RulerCells.{deep-ruler, first-cell, last-cell}
 use Rattle.layout.proofs.LevelWalk.{Walk, walk-start, walk-turn, walk-end}
@@ -20,6 +23,11 @@ Inv-loop from₀ to₀ level₀ held₀ from to level held =
 
 abbrev μ-loop : tie.MeasureT-loop
 μ-loop from₀ to₀ level₀ held₀ from to level held = level
+
+-- all that the walk counts, from the cells that it starts with
+held-whole : (s : Scale) (t : Trip) {m : ℕ} {from last to : Cell} → m ≡ s .m → from ≡ bottomCell s (t .start) → to ≡ nextCell last
+    → last ≡ bottomCell s (t .end) → heldAbove m (from .1) (to .1 - 1) (suc m) ≡ partitionsHolding s t
+held-whole s t p q e f = let back : s .cell (t .end) + 1 - 1 ≡ s .cell (t .end) = omega arith in rw (p, q, e, f, back) (sym (held-in-all s t))
 
 bottom-cell-requires : tie.Need-bottom-cell-requires Inv-loop μ-loop
 bottom-cell-requires c κs = search needs
@@ -83,31 +91,32 @@ no-later-requires c κs = omega arith
 
 returns : tie.Need-returns Inv-loop μ-loop
 returns c =
-    let g = c .before .before .before .before .before .before .before .before .before .before in
     let k = c .before .before .before .loop in
+    let b = c .before .before .before .before in
+    let g = b .before .before .before .before .before .before .args in
     let none : k .to .1 ≤ k .from .1 = leb-true _ _ (rw (c .before .no-later .ensures) at (c .if1 .taken)) in
     let zero : k .level ≡ 0 = omega arith in
-    let back : (b : ℕ) → b + 1 - 1 ≡ b = λ b. omega arith in
+    let high : k .to .1 ≤ 1 = rw zero at (k .inv .0 .high) in
     let all = walk-end _ _ _ (k .level) (k .from .1) (k .to .1) (k .held) _ 0 zero (k .inv .0) (omega arith) in
-    let b = c .before .before .before .before in
-    let named = rw (b .bottom .ensures, b .before .next .ensures, b .before .before .bottom-cell2 .ensures, b .before .before .before .bottom-cell .ensures, back) at all in
-    rw (held-in-all (scale (g .args .ruler)) (g .args .t)) (omega (arith, named))
+    let whole = held-whole (scale (g .ruler)) (g .t) (b .bottom .ensures) (b .before .before .before .bottom-cell .ensures) (b .before .next .ensures)
+    (b .before .before .bottom-cell2 .ensures) in
+    omega (arith, all, whole)
 
 add-result : tie.Need-add-result Inv-loop μ-loop
 add-result c = omega arith
 
 returns-2 : tie.Need-returns-2 Inv-loop μ-loop
 returns-2 c =
-    let g = c .before .before .before .before .before .before .before .before .before .before in
     let k = c .before .before .before .loop in
+    let b = c .before .before .before .before in
+    let g = b .before .before .before .before .before .before .args in
     let some : k .from .1 < k .to .1 = leb-false _ _ (rw (c .before .no-later .ensures) at (c .if1 .left)) in
     let zero : k .level ≡ 0 = omega arith in
     let high : k .to .1 ≤ 1 = rw zero at (k .inv .0 .high) in
-    let back : (b : ℕ) → b + 1 - 1 ≡ b = λ b. omega arith in
     let all = walk-end _ _ _ (k .level) (k .from .1) (k .to .1) (k .held) _ 1 zero (k .inv .0) (omega arith) in
-    let b = c .before .before .before .before in
-    let named = rw (b .bottom .ensures, b .before .next .ensures, b .before .before .bottom-cell2 .ensures, b .before .before .before .bottom-cell .ensures, back) at all in
-    rw (held-in-all (scale (g .args .ruler)) (g .args .t)) (omega (arith, named))
+    let whole = held-whole (scale (g .ruler)) (g .t) (b .bottom .ensures) (b .before .before .before .bottom-cell .ensures) (b .before .next .ensures)
+    (b .before .before .bottom-cell2 .ensures) in
+    omega (arith, all, whole)
 
 pub partitions-holding-spec : {M : Type 1} → statement M
 partitions-holding-spec =

@@ -4,7 +4,6 @@ use mathlib.Core.Path.{_∙_}
 use borrow.Author.Tests.{leb-true, leb-false}
 use Rattle.store.proofs.Walking.{Going, going-start, going-level, going-none, going-turn, going-end, wrote-long}
 use native.Mathlib.Omega.{arith}
-use borrow.Author.Needs.{needs}
 use Rattle.store.proofs.places.slots_of.Statement.{statement}
 use Rattle.store.proofs.places.slots_of.Tie as tie
 
@@ -45,7 +44,9 @@ level-requires : tie.Need-level-requires Inv-loop μ-loop
 level-requires c κs = tt
 
 same-length-2 : tie.Need-same-length-2 Inv-loop μ-loop
-same-length-2 c = wrote-long (c .before .before .before .before .visited-at .ensures) ∙ c .before .before .before .before .before .before .before .before .loop .inv .walking .long
+same-length-2 c =
+    let v = c .before .before .before .before in
+    wrote-long (v .visited-at .ensures) ∙ v .before .before .before .before .loop .inv .walking .long
 
 returns-2 : tie.Need-returns-2 Inv-loop μ-loop
 returns-2 c =
@@ -66,7 +67,9 @@ above-requires : tie.Need-above-requires Inv-loop μ-loop
 above-requires c κs = rw (c .next2 .ensures) (omega (arith, c .before .before .level .ensures))
 
 above-requires-2 : tie.Need-above-requires-2 Inv-loop μ-loop
-above-requires-2 c κs = omega (arith, c .before .before .before .level .ensures, c .before .before .before .before .before .before .before .before .before .before .loop .inv .one)
+above-requires-2 c κs =
+    let v = c .before .before .before .before .before .before in
+    omega (arith, c .before .before .before .level .ensures, v .before .before .before .before .loop .inv .one)
 
 loop-less : tie.Need-loop-less Inv-loop μ-loop
 loop-less c = rw (c .before .above .ensures, c .before .before .next2 .ensures) (omega (arith, c .before .before .before .before .level .ensures))

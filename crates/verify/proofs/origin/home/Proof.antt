@@ -62,7 +62,8 @@ returns c =
     let b = k .before .bottom-cell2 .ensures in
     let a = k .before .before .bottom-cell .ensures in
     let level = rw (b, a) at (k .home-level .ensures) in
-    rw (c .slot-number .ensures, c .before .same .ensures, c .before .before .at-level2 .ensures, c .before .before .before .at-level .ensures, b, a, level)
+    let p = c .before .before .before .at-level .ensures in
+    rw (c .slot-number .ensures, c .before .same .ensures, c .before .before .at-level2 .ensures, p, b, a, level)
 
 pub home-spec : {M : Type 1} → statement M
 home-spec =

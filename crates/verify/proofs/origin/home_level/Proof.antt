@@ -1,12 +1,11 @@
 -- From level m up, as long as the partition above of the first cell lies in the cells of the trip.
 use mathlib.Core.Path.{_≡_, sym, ap, _∙_}
-use Prim.Native.Nat.{ℕ, _-_, _≤_}
+use Prim.Native.Nat.{_-_, _≤_}
 use borrow.Author.Tests.{not-true, not-false}
 use Rattle.ruler.proofs.Levels.{up-lt}
 use Rattle.verify.specs.Local.{homeLevel}
 use Rattle.verify.proofs.Home.{home-stop, home-turn, home-end}
 use native.Mathlib.Omega.{arith}
-use borrow.Author.Needs.{needs}
 use Rattle.verify.proofs.origin.home_level.Statement.{statement}
 use Rattle.verify.proofs.origin.home_level.Tie as tie
 

@@ -1,5 +1,5 @@
 -- A partition of level 0 has no parent; the parent of another is on the level above.
-use mathlib.Core.Path.{_≡_, sym, _∙_}
+use mathlib.Core.Path.{sym, _∙_}
 use Rattle.verify.proofs.Places.{holds-top, holds-below, parent-lt}
 use native.Mathlib.Omega.{arith}
 use borrow.Author.Needs.{needs}
@@ -15,7 +15,8 @@ lies-in-requires c κs = search needs
 returns : tie.Need-returns
 returns c =
     let g = c .before .before .before .args in
-    c .lies-in .ensures ∙ sym (holds-top (g .a .0) (g .partition .0) (g .partition .1) (g .a .1) (g .b .1) (omega (arith, c .before .before .level .ensures)))
+    let top = c .before .before .level .ensures in
+    c .lies-in .ensures ∙ sym (holds-top (g .a .0) (g .partition .0) (g .partition .1) (g .a .1) (g .b .1) (omega arith))
 
 lies-in-requires-2 : tie.Need-lies-in-requires-2
 lies-in-requires-2 c κs = search needs
