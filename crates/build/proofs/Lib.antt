@@ -4,7 +4,6 @@
 pub mod Judging
 pub mod Outcomes
 -- a half, from the counts of its slots to its words in order
-pub mod Cells
 pub mod Tally
 pub mod Belonging
 pub mod Turns

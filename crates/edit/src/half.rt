@@ -27,9 +27,8 @@ pub fn spots_of(ruler: Ruler, half: Half, t: Trip, spots: &mut [u32]) -> usize
 {
     let start = t.start;
     let end = t.end;
-    let bottom = ruler.bottom();
-    let first = ruler.cell(bottom, start);
-    let last = ruler.cell(bottom, end);
+    let first = ruler.bottom_cell(start);
+    let last = ruler.bottom_cell(end);
     places::slots_of(half, first, last, spots)
 }
 

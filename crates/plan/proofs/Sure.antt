@@ -15,7 +15,7 @@ use Rattle.lists.proofs.Tests.{of-and, of-T, to-T}
 use Rattle.lists.proofs.Members.{of-keep, of-sort, of-joined}
 use Rattle.lists.proofs.Joined.{joined-add}
 use Rattle.lists.proofs.Kept.{keep-append, keep-all}
-use Rattle.ruler.specs.Ruler.{Scale, cellUp}
+use Rattle.ruler.specs.Ruler.{Scale, cellUp, nextCell, begins}
 use Rattle.ruler.proofs.Levels.{up-mono, up-from, up-to}
 use Rattle.trip.specs.declared.Trip.{Trip}
 use Rattle.layout.specs.declared.Half.{Half}
@@ -25,7 +25,7 @@ use Rattle.layout.specs.Words.{slotTrips}
 use Rattle.layout.proofs.Partitions.{holds-within, of-within}
 use Rattle.layout.proofs.Sides.{ofOriginals, of-isOf}
 use Rattle.plan.specs.declared.range.Plan.{Plan}
-use Rattle.plan.specs.Plan.{Ranged, originalSlots, replicaSlots, begins, following, sureFirst, sureLast, keepUnless}
+use Rattle.plan.specs.Plan.{Ranged, originalSlots, replicaSlots, sureFirst, sureLast, keepUnless}
 use Rattle.plan.proofs.Looked.{slotFrom, slotsFrom}
 use Rattle.plan.proofs.Ranges.{few-slots}
 
@@ -157,7 +157,7 @@ module _ (s : Scale) (ts : List Trip) (t : Trip → Bool) (p : Plan) (r : Ranged
   of-first : sureFirst p L ≡ true → (p .quick ≡ true) × (eqb ((p .low .1 + 1) % 2 ^ (s .m - L)) 0 ≡ false)
   unfolding sureFirst begins
   of-first e =
-      let at-once = begins (following (p .low)) L in
+      let at-once = begins (nextCell (p .low)) L in
       let w = of-and (p .quick) (not at-once) (to-T e) in
       (of-T (p .quick) (w .0), rw (r .low-level) at (not-true at-once (of-T (not at-once) (w .1))))
 

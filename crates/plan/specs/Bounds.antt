@@ -1,9 +1,9 @@
 -- Each relationship as bounds on a trip's start and end: the table of document 01, a row for each relationship. That these are its
 -- relationships is the law `inside-related`.
 use mathlib.Core.Bool.{Bool, _&&_}
-use Prim.Native.Nat.{ℕ, _+_}
+use Prim.Native.Nat.{ℕ}
 use Rattle.ruler.specs.declared.Time.{Time}
-use Rattle.ruler.specs.Ruler.{timeAt, before, noLater}
+use Rattle.ruler.specs.Ruler.{timeAt, before, noLater, nextTime}
 use Rattle.trip.specs.declared.Trip.{Trip}
 use Rattle.trip.specs.declared.Window.{Window}
 use Rattle.trip.specs.declared.Relationship.{Relationship}
@@ -11,12 +11,9 @@ use Rattle.trip.specs.declared.Relationship.the-variants.{Equals, Starts, Start
 use Rattle.plan.specs.declared.bounds.Span.{Span}
 use Rattle.plan.specs.declared.bounds.Bounds.{Bounds}
 
--- a time after every ruler's, and the time one second later
+-- a time after every ruler's
 abbrev pub far : ℕ
 far = 4294967295
-
-abbrev pub next : Time → Time
-next t = timeAt (t .0 + 1)
 
 -- the times from one on, up to another that is not of them
 abbrev pub span : (from until : Time) → Span
@@ -26,22 +23,22 @@ unfoldable pub has : Span → Time → Bool
 has s t = noLater (s .from) t && before t (s .until)
 
 abbrev pub exactly : Time → Span
-exactly t = span t (next t)
+exactly t = span t (nextTime t)
 
 abbrev pub later : Time → Span
-later t = span (next t) (timeAt far)
+later t = span (nextTime t) (timeAt far)
 
 abbrev pub earlier : Time → Span
 earlier t = span (timeAt 0) t
 
 abbrev pub between : (a b : Time) → Span
-between a b = span (next a) b
+between a b = span (nextTime a) b
 
 abbrev pub since : Time → Span
 since t = span t (timeAt far)
 
 abbrev pub until : Time → Span
-until t = span (timeAt 0) (next t)
+until t = span (timeAt 0) (nextTime t)
 
 abbrev pub any : Span
 any = span (timeAt 0) (timeAt far)

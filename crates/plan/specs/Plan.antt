@@ -3,11 +3,11 @@
 use mathlib.Core.Path.{_≡_}
 use mathlib.Core.Bool.{Bool, true, false, cond, not, _&&_}
 use mathlib.Core.List.{List}
-use Prim.Native.Nat.{ℕ, _+_, _-_, _*_, _^_, _%_, _≤_, _<_}
-use lib.Dec.{ltb, eqb}
+use Prim.Native.Nat.{ℕ, _+_, _-_, _*_, _^_, _≤_, _<_}
+use lib.Dec.{ltb}
 use Rattle.lists.specs.Lists.{keep}
 use Rattle.ruler.specs.declared.Cell.{Cell}
-use Rattle.ruler.specs.Ruler.{Scale, deepest, cellUp, cellOf, cellAt}
+use Rattle.ruler.specs.Ruler.{Scale, deepest, cellUp, cellOf, cellAt, nextCell, begins}
 use Rattle.trip.specs.declared.Trip.{Trip}
 use Rattle.trip.specs.declared.Window.{Window}
 use Rattle.trip.specs.declared.Relationship.{Relationship}
@@ -72,17 +72,10 @@ firstSlot L i = 2 * partitionNumber L i
 abbrev pub slotAt : Cell → (L : ℕ) → ℕ
 slotAt c L = firstSlot L (cellUp (c .0) L (c .1))
 
--- the cell is the first of its partition at level L; and the cell after it
-unfoldable pub begins : Cell → (L : ℕ) → Bool
-begins c L = eqb (c .1 % 2 ^ (c .0 - L)) 0
-
-abbrev pub following : Cell → Cell
-following c = cellOf (c .0) (c .1 + 1)
-
 -- in a quick plan: the low cell is not the last of its partition, so that what the partition holds ends after it; and the high cell is
 -- not the first of its partition, so that what the partition holds starts before it
 unfoldable pub sureFirst : Plan → (L : ℕ) → Bool
-sureFirst p L = p .quick && not (begins (following (p .low)) L)
+sureFirst p L = p .quick && not (begins (nextCell (p .low)) L)
 
 unfoldable pub sureLast : Plan → (L : ℕ) → Bool
 sureLast p L = p .quick && not (begins (p .high) L)

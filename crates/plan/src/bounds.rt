@@ -5,7 +5,7 @@ use trip::Trip;
 use trip::Window;
 ghost use mathlib.Core.Path.{_≡_};
 ghost use Prim.Native.Nat.{_<_};
-ghost use Rattle.plan.specs.Bounds.{has, bounds, inside, far, next, exactly, later, earlier, between, since, until, any, boundsOf};
+ghost use Rattle.plan.specs.Bounds.{has, bounds, inside, far, exactly, later, earlier, between, since, until, any, boundsOf};
 
 // The times from one on, up to another that is not of them.
 pub struct Span {
@@ -27,7 +27,7 @@ impl Span {
     {
         Span {
             from: t,
-            until: next(t),
+            until: t.next(),
         }
     }
 
@@ -36,7 +36,7 @@ impl Span {
         ensures { λ r. ⌜ r ≡ later t ⌝ }
     {
         Span {
-            from: next(t),
+            from: t.next(),
             until: Time::at(FAR),
         }
     }
@@ -55,7 +55,7 @@ impl Span {
         ensures { λ r. ⌜ r ≡ between a b ⌝ }
     {
         Span {
-            from: next(a),
+            from: a.next(),
             until: b,
         }
     }
@@ -75,7 +75,7 @@ impl Span {
     {
         Span {
             from: Time::at(0),
-            until: next(t),
+            until: t.next(),
         }
     }
 
@@ -113,14 +113,6 @@ impl Bounds {
 
 // A time after every ruler's.
 const FAR: u32 = 4294967295;
-
-// The time one second later.
-fn next(t: Time) -> Time
-    requires { ⌜ t .0 < far ⌝ }
-    ensures { λ r. ⌜ r ≡ next t ⌝ }
-{
-    Time::at(t.seconds() + 1)
-}
 
 // The bounds of the trips to which a window stands so.
 pub fn bounds_of(relationship: Relationship, q: Window) -> Bounds

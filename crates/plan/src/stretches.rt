@@ -4,10 +4,10 @@ use crate::range::Plan;
 use ruler::Cell;
 use ruler::power;
 ghost use mathlib.Core.Path.{_≡_};
-ghost use Prim.Native.Nat.{_<_, _≤_};
+ghost use Prim.Native.Nat.{_^_, _<_, _≤_};
 ghost use Rattle.ruler.specs.Ruler.{deepest};
 ghost use Rattle.layout.specs.Words.{halfLength};
-ghost use Rattle.plan.specs.Plan.{Ranged, originalSlots, replicaSlots, slotAt, begins, sureFirst, sureLast, stretch, arranged, stretchesAt};
+ghost use Rattle.plan.specs.Plan.{Ranged, originalSlots, replicaSlots, slotAt, sureFirst, sureLast, stretch, arranged, stretchesAt};
 
 // How many slots of the range's last partition are looked at among the originals: "in" alone, or "in" and "aft".
 fn original_slots(kind: Kind) -> usize
@@ -33,11 +33,10 @@ fn replica_slots(kind: Kind) -> usize
 
 // The first slot, in its half, of the partition of a level in which a cell lies.
 fn slot_at(cell: Cell, level: u32) -> usize
-    requires { ⌜ (level ≤ cell .0) × (cell .0 ≤ deepest) ⌝ }
+    requires { ⌜ (level ≤ cell .0) × (cell .0 ≤ deepest) × (cell .1 < 2 ^ cell .0) ⌝ }
     ensures { λ r. ⌜ r ≡ slotAt cell level ⌝ }
 {
-    let number = cell.number() >> (cell.level() - level);
-    2 * (power(level) as usize - 1 + number as usize)
+    2 * cell.at_level(level).rank() as usize
 }
 
 // Where the replicas' half of the directory begins.
@@ -48,14 +47,6 @@ pub fn half_length(m: u32) -> usize
     4 * power(m) as usize - 1
 }
 
-// Whether a cell is the first of its partition at a level.
-fn begins(cell: Cell, level: u32) -> bool
-    requires { ⌜ (level ≤ cell .0) × (cell .0 ≤ deepest) ⌝ }
-    ensures { λ r. ⌜ r ≡ begins cell level ⌝ }
-{
-    cell.number() % power(cell.level() - level) == 0
-}
-
 // Whether a trip in the first partition is known to end after the first cell: that cell is not the partition's last.
 fn sure_first(plan: Plan, level: u32) -> bool
     requires { ⌜ Ranged (plan .low .0) plan ⌝ }
@@ -63,8 +54,8 @@ fn sure_first(plan: Plan, level: u32) -> bool
     ensures { λ r. ⌜ r ≡ sureFirst plan level ⌝ }
 {
     let low = plan.low;
-    let after = Cell::at(low.level(), low.number() + 1);
-    plan.quick & !begins(after, level)
+    let after = low.next();
+    plan.quick & !after.begins(level)
 }
 
 // Whether a trip in the last partition is known to start before the last cell: that cell is not the partition's first.
@@ -74,7 +65,7 @@ fn sure_last(plan: Plan, level: u32) -> bool
     ensures { λ r. ⌜ r ≡ sureLast plan level ⌝ }
 {
     let high = plan.high;
-    plan.quick & !begins(high, level)
+    plan.quick & !high.begins(level)
 }
 
 // The entries from one word of a directory up to another, and whether they are known to match.

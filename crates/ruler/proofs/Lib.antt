@@ -3,3 +3,4 @@ pub mod Levels
 pub mod Fair
 pub mod Judging
 pub mod Shift
+pub mod Small

@@ -1,6 +1,6 @@
 -- Document 01, "Ruler and cells", as definitions. Every test is a Bool and computes.
 use mathlib.Core.Bool.{Bool, true, false, cond, _&&_}
-use Prim.Native.Nat.{ℕ, _-_, _/_, _^_}
+use Prim.Native.Nat.{ℕ, _+_, _-_, _*_, _/_, _%_, _^_}
 use lib.Dec.{leb, ltb, eqb}
 use Rattle.ruler.specs.declared.Time.{Time}
 use Rattle.ruler.specs.declared.Cell.{Cell}
@@ -21,6 +21,10 @@ sameTime s t = eqb (s .0) (t .0)
 
 abbrev pub noLater : Time → Time → Bool
 noLater s t = leb (s .0) (t .0)
+
+-- the time one second later
+abbrev pub nextTime : Time → Time
+nextTime t = timeAt (t .0 + 1)
 
 -- "The widest ruler, the deepest level and the most trips, 4,096, are the ruler's own constants."
 abbrev pub widest : ℕ
@@ -67,6 +71,52 @@ cellOf level number = record { 0 = level; 1 = number }
 
 abbrev pub cellAt : Scale → (level : ℕ) → Time → Cell
 cellAt s level t = cellOf level (cellUp (s .m) level (s .cell t))
+
+-- the level-m cell of a time
+abbrev pub bottomCell : Scale → Time → Cell
+bottomCell s t = cellOf (s .m) (s .cell t)
+
+-- ---- what is done to cells
+
+-- two cells of one level: the same, and the first of them no later
+abbrev pub sameCell : Cell → Cell → Bool
+sameCell c d = eqb (c .1) (d .1)
+
+abbrev pub noLaterCell : Cell → Cell → Bool
+noLaterCell c d = leb (c .1) (d .1)
+
+-- the cell after it on its level; after the last one this is where a range of cells ends
+abbrev pub nextCell : Cell → Cell
+nextCell c = cellOf (c .0) (c .1 + 1)
+
+-- the cell of the level above in which it lies, and that of any level L above
+abbrev pub cellAbove : Cell → Cell
+cellAbove c = cellOf (c .0 - 1) (c .1 / 2)
+
+abbrev pub cellIn : (L : ℕ) → Cell → Cell
+cellIn L c = cellOf L (cellUp (c .0) L (c .1))
+
+-- which of the two cells of the cell above it is, 0 or 1; and the one that is 0
+abbrev pub parity : Cell → ℕ
+parity c = c .1 % 2
+
+abbrev pub firstOfTwo : Cell → Cell
+firstOfTwo c = cellOf (c .0) (c .1 / 2 * 2)
+
+-- the first and the last level-m cell that lie in it
+abbrev pub firstIn : (m : ℕ) → Cell → Cell
+firstIn m c = cellOf m (c .1 * 2 ^ (m - c .0))
+
+abbrev pub lastIn : (m : ℕ) → Cell → Cell
+lastIn m c = cellOf m ((c .1 + 1) * 2 ^ (m - c .0) - 1)
+
+-- it is the first of the cells of its level that lie in one cell of level L
+unfoldable pub begins : Cell → (L : ℕ) → Bool
+begins c L = eqb (c .1 % 2 ^ (c .0 - L)) 0
+
+-- as many cells as come before it, level after level from level 0 on
+abbrev pub cellRank : Cell → ℕ
+cellRank c = 2 ^ c .0 - 1 + c .1
 
 -- the ruler of some numbers, or the refusal of them
 unfoldable pub judge : Numbers → Judged

@@ -1,11 +1,14 @@
 // The ruler: raw times, cells at a level, and the numbers that a caller names a ruler by.
 ghost use mathlib.Core.Path.{_≡_};
 ghost use mathlib.Core.Bool.{true};
-ghost use Prim.Native.Nat.{_^_, _≤_};
-ghost use Rattle.ruler.specs.Ruler.{timeAt, before, sameTime, noLater, cellOf, widest, deepest, mostTrips, inBounds, judge, scale, cellAt};
+ghost use Prim.Native.Nat.{_+_, _^_, _<_, _≤_};
+ghost use Rattle.ruler.specs.Ruler.{timeAt, before, sameTime, noLater, nextTime, widest, deepest, mostTrips, inBounds, judge, scale};
+ghost use Rattle.ruler.specs.Ruler.{cellOf, cellAt, bottomCell, sameCell, noLaterCell, nextCell, cellAbove, cellIn, parity, firstOfTwo};
+ghost use Rattle.ruler.specs.Ruler.{firstIn, lastIn, begins, cellRank};
 
-// A raw time: whole seconds on the service day, which may pass 24:00:00. Its field is private, so a sum or a comparison
-// of a time with a cell number cannot be written.
+// A raw time: whole seconds on the service day, which may pass 24:00:00. Its field is private: outside this crate a time is only what
+// the functions below make of it, and none but `Ruler::cell` and `Ruler::bottom_cell` has to do with a cell. Its number leaves it by
+// `seconds`, which only the writer of an entry's words calls (store/src/entry.rt).
 pub struct Time(u32);
 
 impl Time {
@@ -38,9 +41,19 @@ impl Time {
     {
         self.0 <= other.0
     }
+
+    // The time one second later.
+    pub fn next(self) -> Time
+        requires { ⌜ self .0 + 1 < 2 ^ 32 ⌝ }
+        ensures { λ r. ⌜ r ≡ nextTime self ⌝ }
+    {
+        Time(self.0 + 1)
+    }
 }
 
-// A cell at a level: the level, and the cell's number there.
+// A cell at a level: the level, and the cell's number there. A partition is the cell of its level that it covers. Where a range of cells
+// ends with a level, the cell one past the level's last is its end. The fields are private: a cell's number leaves it by `rank` alone, of
+// which slot numbers are made (store/src/places.rt, plan/src/stretches.rt). Cells are compared at one level only.
 pub struct Cell(u32, u32);
 
 impl Cell {
@@ -56,10 +69,88 @@ impl Cell {
         self.0
     }
 
-    pub fn number(self) -> u32
-        ensures { λ r. ⌜ r ≡ self .1 ⌝ }
+    pub fn same(self, other: Cell) -> bool
+        requires { ⌜ self .0 ≡ other .0 ⌝ }
+        ensures { λ r. ⌜ r ≡ sameCell self other ⌝ }
     {
-        self.1
+        self.1 == other.1
+    }
+
+    pub fn no_later(self, other: Cell) -> bool
+        requires { ⌜ self .0 ≡ other .0 ⌝ }
+        ensures { λ r. ⌜ r ≡ noLaterCell self other ⌝ }
+    {
+        self.1 <= other.1
+    }
+
+    // The cell after it on its level.
+    pub fn next(self) -> Cell
+        requires { ⌜ (self .0 ≤ deepest) × (self .1 ≤ 2 ^ self .0) ⌝ }
+        ensures { λ r. ⌜ r ≡ nextCell self ⌝ }
+    {
+        Cell(self.0, self.1 + 1)
+    }
+
+    // The cell of the level above in which it lies.
+    pub fn above(self) -> Cell
+        requires { ⌜ 0 < self .0 ⌝ }
+        ensures { λ r. ⌜ r ≡ cellAbove self ⌝ }
+    {
+        Cell(self.0 - 1, self.1 / 2)
+    }
+
+    // The cell of a level above in which it lies.
+    pub fn at_level(self, level: u32) -> Cell
+        requires { ⌜ (level ≤ self .0) × (self .0 ≤ deepest) ⌝ }
+        ensures { λ r. ⌜ r ≡ cellIn level self ⌝ }
+    {
+        Cell(level, self.1 >> (self.0 - level))
+    }
+
+    // Which of the two cells of the cell above it is: 0 or 1.
+    pub fn parity(self) -> u32
+        ensures { λ r. ⌜ r ≡ parity self ⌝ }
+    {
+        self.1 % 2
+    }
+
+    // The first of those two.
+    pub fn first_of_two(self) -> Cell
+        ensures { λ r. ⌜ r ≡ firstOfTwo self ⌝ }
+    {
+        Cell(self.0, self.1 / 2 * 2)
+    }
+
+    // The first of the cells of a deeper level that lie in it.
+    pub fn first_at(self, level: u32) -> Cell
+        requires { ⌜ (self .0 ≤ level) × (level ≤ deepest) × (self .1 < 2 ^ self .0) ⌝ }
+        ensures { λ r. ⌜ r ≡ firstIn level self ⌝ }
+    {
+        Cell(level, self.1 * power(level - self.0))
+    }
+
+    // And the last of them.
+    pub fn last_at(self, level: u32) -> Cell
+        requires { ⌜ (self .0 ≤ level) × (level ≤ deepest) × (self .1 < 2 ^ self .0) ⌝ }
+        ensures { λ r. ⌜ r ≡ lastIn level self ⌝ }
+    {
+        Cell(level, (self.1 + 1) * power(level - self.0) - 1)
+    }
+
+    // Whether it is the first of the cells of its level that lie in one cell of a level above.
+    pub fn begins(self, level: u32) -> bool
+        requires { ⌜ (level ≤ self .0) × (self .0 ≤ deepest) ⌝ }
+        ensures { λ r. ⌜ r ≡ begins self level ⌝ }
+    {
+        self.1 % power(self.0 - level) == 0
+    }
+
+    // As many cells as come before it, level after level from level 0 on.
+    pub fn rank(self) -> u32
+        requires { ⌜ (self .0 ≤ deepest) × (self .1 ≤ 2 ^ self .0) ⌝ }
+        ensures { λ r. ⌜ r ≡ cellRank self ⌝ }
+    {
+        power(self.0) - 1 + self.1
     }
 }
 
@@ -121,6 +212,15 @@ impl Ruler {
     {
         let w = self.numbers.w;
         Cell(level, t.0 >> (w - level))
+    }
+
+    // The level-m cell of a time.
+    pub fn bottom_cell(self, t: Time) -> Cell
+        requires { ⌜ inBounds (self .numbers) ≡ true ⌝ }
+        ensures { λ r. ⌜ r ≡ bottomCell (scale self) t ⌝ }
+    {
+        let m = self.numbers.m;
+        self.cell(m, t)
     }
 }
 

@@ -1,21 +1,23 @@
 -- The loop that writes the slots of a trip: what is written and what the rest of the walk will write are, together, the whole walk.
 use mathlib.Core.Path.{_≡_, refl, sym, ap, _∙_}
-use mathlib.Core.Bool.{Bool, true, _&&_}
-use mathlib.Core.List.{List, [], _∷_, _++_}
+use mathlib.Core.List.{List, [], _++_, append-assoc}
 use Prim.Native.Nat.{ℕ, suc, _+_, _-_, _*_, _/_, _%_, _^_, _≤_, _<_}
 use native.Mathlib.Nat.{two-pow-succ}
 use native.Mathlib.Numerals.{add-one}
 use native.Mathlib.Omega.{arith}
-use lib.Dec.{ltb, eqb}
-use lib.ListN.{length, drop, length-append}
+use lib.Dec.{eqb}
+use lib.ListN.{length, length-append}
 use lib.Seq.{sets, sets-eq, length-sets}
 use borrow.Author.Tests.{lt-ltb}
 use Rattle.lists.proofs.Stores.{sets-append}
-use Rattle.ruler.specs.Ruler.{deepest}
+use Rattle.ruler.specs.declared.Cell.{Cell}
+use Rattle.ruler.specs.Ruler.{deepest, cellUp, nextCell, cellAbove, cellIn}
+use Rattle.ruler.proofs.Levels.{up-half, up-bottom}
 use Rattle.layout.specs.declared.Half.{Half}
 use Rattle.lists.specs.Lists.{over}
 use Rattle.layout.specs.Walk.{visit, walk, slotsOf}
-use Rattle.layout.proofs.Walk.{visit-few, walk-few}
+use Rattle.layout.proofs.Walk.{visit-few, walk-few, walk-ends, walk-none}
+use Rattle.store.specs.Places.{mostSlots, Level, Wrote, visitsAt}
 
 -- a run of stores at the front
 pub sets-over : (l v : List ℕ) → length v ≤ length l → sets l 0 v ≡ over v l
@@ -35,42 +37,57 @@ pub walking-start : (half : Half) (spots : List ℕ) (level lo hi ca cb : ℕ) �
     → Walking half spots spots 0 level lo hi ca cb (walk half level lo hi ca cb)
 walking-start half spots level lo hi ca cb r f i = record { all = refl; many = omega arith; long = refl; room = omega arith; few = f; inside = i }
 
+-- the visits of a level, from one end of the partitions that lie in the trip's cells and from the other
+visits : Half → (L lo hi ca cb : ℕ) → List ℕ
+visits half L lo hi ca cb = visit half (eqb (lo % 2) 1) L lo ca cb ++ visit half (eqb (hi % 2) 1) L (hi / 2 * 2) ca cb
+
+visits-few : (half : Half) (L lo hi ca cb : ℕ) → length (visits half L lo hi ca cb) ≤ 2
+unfolding visits
+visits-few half L lo hi ca cb = omega (
+  arith,
+  length-append (visit half (eqb (lo % 2) 1) L lo ca cb) (visit half (eqb (hi % 2) 1) L (hi / 2 * 2) ca cb),
+  visit-few half (eqb (lo % 2) 1) L lo ca cb,
+  visit-few half (eqb (hi % 2) 1) L (hi / 2 * 2) ca cb,
+)
+
 -- one level of the walk, with some partitions left
 walk-level : (half : Half) (L lo hi ca cb : ℕ) → lo < hi
-    → walk half (suc L) lo hi ca cb
-    ≡ visit half (eqb (lo % 2) 1) L lo ca cb ++ (visit half (eqb (hi % 2) 1) L (hi / 2 * 2) ca cb ++ walk half L ((lo + 1) / 2) (hi / 2) (ca / 2)
-    (cb / 2))
-unfolding walk
-walk-level half L lo hi ca cb h = rw (lt-ltb lo hi h)
+    → walk half (suc L) lo hi ca cb ≡ visits half L lo hi ca cb ++ walk half L ((lo + 1) / 2) (hi / 2) (ca / 2) (cb / 2)
+unfolding walk visits
+walk-level half L lo hi ca cb h = rw (lt-ltb lo hi h, append-assoc)
+
+-- as many words as before
+pub wrote-long : {v spots spots₁ : List ℕ} {n n₁ : ℕ} → Wrote v spots n n₁ spots₁ → length spots₁ ≡ length spots
+wrote-long {v} {spots} {spots₁} {n} e = ap length (e .words) ∙ length-sets spots n v
+
+-- one run of slots behind another
+pub wrote-both : {v u spots spots₁ spots₂ : List ℕ} {n n₁ n₂ : ℕ} → Wrote v spots n n₁ spots₁ → Wrote u spots₁ n₁ n₂ spots₂
+    → Wrote (v ++ u) spots n n₂ spots₂
+wrote-both {v} {u} {spots} {spots₁} {spots₂} {n} e f = record {
+  many = omega (arith, e .many, f .many, length-append v u);
+  words = f .words ∙ rw (e .many, e .words) (sym (sets-append spots n v u));
+}
 
 module _ {half : Half} {spots₀ spots : List ℕ} {n level lo hi ca cb : ℕ} {whole : List ℕ}
     (w : Walking half spots₀ spots n level lo hi ca cb whole) where
-  -- a level's two visits
-  pub walking-turn : (spots₁ spots₂ : List ℕ) (n₁ n₂ : ℕ) → 0 < level → lo < hi
-      → (n₁ ≡ n + length (visit half (eqb (lo % 2) 1) (level - 1) lo ca cb))
-      × (spots₁ ≡ sets spots n (visit half (eqb (lo % 2) 1) (level - 1) lo ca cb))
-      → (n₂ ≡ n₁ + length (visit half (eqb (hi % 2) 1) (level - 1) (hi / 2 * 2) ca cb))
-      × (spots₂ ≡ sets spots₁ n₁ (visit half (eqb (hi % 2) 1) (level - 1) (hi / 2 * 2) ca cb))
-      → Walking half spots₀ spots₂ n₂ (level - 1) ((lo + 1) / 2) (hi / 2) (ca / 2) (cb / 2) whole
-  walking-turn spots₁ spots₂ n₁ n₂ h l e f =
+  -- a level's visits
+  walking-turn : (spots₁ : List ℕ) (n₁ : ℕ) → 0 < level → lo < hi
+      → Wrote (visits half (level - 1) lo hi ca cb) spots n n₁ spots₁
+      → Walking half spots₀ spots₁ n₁ (level - 1) ((lo + 1) / 2) (hi / 2) (ca / 2) (cb / 2) whole
+  walking-turn spots₁ n₁ h l e =
       let L = level - 1 in
-      let v = visit half (eqb (lo % 2) 1) L lo ca cb in
-      let u = visit half (eqb (hi % 2) 1) L (hi / 2 * 2) ca cb in
+      let v = visits half L lo hi ca cb in
       let rest = walk half L ((lo + 1) / 2) (hi / 2) (ca / 2) (cb / 2) in
       let up : level ≡ suc L = omega arith in
-      let now : walk half level lo hi ca cb ≡ v ++ (u ++ rest) = ap (λ (k : ℕ). walk half k lo hi ca cb) up ∙ walk-level half L lo hi ca cb l in
-      let split : sets spots n (v ++ (u ++ rest)) ≡ sets spots₂ n₂ rest = sets-append spots n v (u ++ rest)
-      ∙ rw (← e .0, ← e .1) (sets-append spots₁ n₁ u rest ∙ rw (← f .0, ← f .1)) in
-      let total : length (v ++ (u ++ rest)) ≡ length v + (length u + length rest) = length-append v (u ++ rest)
-      ∙ ap (λ (k : ℕ). length v + k) (length-append u rest) in
-      let sum = ap length now in
+      let now : walk half level lo hi ca cb ≡ v ++ rest = ap (λ (k : ℕ). walk half k lo hi ca cb) up ∙ walk-level half L lo hi ca cb l in
+      let split : sets spots n (v ++ rest) ≡ sets spots₁ n₁ rest = sets-append spots n v rest ∙ rw (← e .many, ← e .words) in
       let pow : 2 ^ level ≡ 2 ^ L + 2 ^ L = ap (λ (k : ℕ). 2 ^ k) up ∙ two-pow-succ L in
       let inside = w .inside in
       record {
         all = sym split ∙ ap (sets spots n) (sym now) ∙ w .all;
-        many = omega (arith, e .0, f .0, w .many);
-        long = ap length (f .1) ∙ length-sets spots₁ n₁ u ∙ ap length (e .1) ∙ length-sets spots n v ∙ w .long;
-        room = omega (arith, e .0, f .0, w .room, visit-few half (eqb (lo % 2) 1) L lo ca cb, visit-few half (eqb (hi % 2) 1) L (hi / 2 * 2) ca cb);
+        many = omega (arith, e .many, w .many, ap length now, length-append v rest);
+        long = wrote-long e ∙ w .long;
+        room = omega (arith, e .many, w .room, visits-few half L lo hi ca cb);
         few = omega (arith, w .few);
         inside = omega arith;
       }
@@ -84,12 +101,85 @@ module _ {half : Half} {spots₀ spots : List ℕ} {n level lo hi ca cb : ℕ} {
   pub walking-fits : length whole ≤ length spots₀
   walking-fits = omega (arith, w .many, w .room, walk-few half level lo hi ca cb)
 
--- the walk that the code starts is the slots of the cells
-pub whole-walk : (half : Half) (m a b : ℕ) {level lo hi last : ℕ} → level ≡ m → lo ≡ a → hi ≡ b → last ≡ b
-    → walk half (level + 1) lo (hi + 1) lo last ≡ slotsOf half m a b
-unfolding slotsOf
-whole-walk half m a b e f g h = rw (e, f, g, h, add-one m)
-
 -- half of a level's partitions
 pub halved : (hi level : ℕ) → 0 < level → hi * 2 ≤ 2 ^ level → hi ≤ 2 ^ (level - 1)
 halved hi level p h = let e : level ≡ suc (level - 1) = omega arith in omega (arith, ap (λ (k : ℕ). 2 ^ k) e ∙ two-pow-succ (level - 1))
+
+-- a bound of them, one level up
+pub half-more : (from level : ℕ) → 0 < level → from ≤ 2 ^ level → (from + 1) / 2 ≤ 2 ^ (level - 1)
+half-more from level p h = let e : level ≡ suc (level - 1) = omega arith in
+    omega (arith, ap (λ (k : ℕ). 2 ^ k) e ∙ two-pow-succ (level - 1))
+
+-- ---- the walk over cells: n slots are written, and at the level of lo and hi the partitions from lo on, up to hi, lie in the cells a .. b
+
+pub record Going (half : Half) (a b : Cell) (spots₀ spots : List ℕ) (n : ℕ) (lo hi : Cell) : Type 0 where
+  pub walking : Walking half spots₀ spots n (lo .0 + 1) (lo .1) (hi .1) (cellIn (lo .0) a .1) (cellIn (lo .0) b .1)
+      (slotsOf half (a .0) (a .1) (b .1))
+  pub bottom : a .0 ≤ deepest
+  pub same : b .0 ≡ a .0
+  pub deep : lo .0 ≤ a .0
+  pub one : hi .0 ≡ lo .0
+
+pub going-start : (half : Half) (a b : Cell) (spots : List ℕ) → a .0 ≤ deepest → b .0 ≡ a .0 → b .1 < 2 ^ a .0 → mostSlots ≤ length spots
+    → Going half a b spots spots 0 a (nextCell b)
+unfolding slotsOf
+going-start half a b spots d e l r =
+    let inside : 2 ^ (a .0 + 1) ≡ 2 ^ (a .0) + 2 ^ (a .0) = rw add-one (two-pow-succ (a .0)) in
+    let start = walking-start half spots (a .0 + 1) (a .1) (b .1 + 1) (a .1) (b .1) (omega arith) (omega arith) (omega arith) in
+    record {
+      walking = rw (e, up-bottom (a .0) (a .1), up-bottom (a .0) (b .1), ← add-one (a .0)) start;
+      bottom = d;
+      same = e;
+      deep = omega arith;
+      one = e;
+    }
+
+module _ {half : Half} {a b : Cell} {spots₀ spots : List ℕ} {n : ℕ} {lo hi : Cell} (g : Going half a b spots₀ spots n lo hi) where
+  pub going-level : lo .1 < hi .1 → (n + 2 ≤ length spots) × Level a b lo hi
+  going-level l =
+      let w = g .walking in
+      let e : lo .0 + 1 - 1 ≡ lo .0 = omega arith in
+      let high : hi .1 ≤ 2 ^ lo .0 = rw e at (halved (hi .1) (lo .0 + 1) (omega arith) (w .inside)) in (
+        omega (arith, w .long, w .room),
+        record {
+          bottom = g .bottom;
+          same = g .same;
+          deep = g .deep;
+          one = g .one;
+          low = omega arith;
+          high = high;
+        },
+      )
+
+  -- with no partition left
+  pub going-none : hi .1 ≤ lo .1 → (n ≡ length (slotsOf half (a .0) (a .1) (b .1))) × (spots ≡ over (slotsOf half (a .0) (a .1) (b .1)) spots₀)
+  going-none l = walking-end (g .walking) (walk-ends _ _ _ _ _ _ l) (walking-fits (g .walking))
+
+  module _ (spots₁ : List ℕ) (n₁ : ℕ) (l : lo .1 < hi .1)
+      (e : Wrote (visitsAt half lo hi a b) spots n n₁ spots₁) where
+    turned : Walking half spots₀ spots₁ n₁ (lo .0) ((lo .1 + 1) / 2) (hi .1 / 2) (cellIn (lo .0) a .1 / 2) (cellIn (lo .0) b .1 / 2)
+        (slotsOf half (a .0) (a .1) (b .1))
+    unfolding visitsAt visits
+    turned =
+        let z : lo .0 + 1 - 1 ≡ lo .0 = omega arith in
+        rw z at (walking-turn (g .walking) spots₁ n₁ (omega arith) l (rw z (rw (g .one) at e)))
+
+    pub going-turn : 0 < lo .0 → Going half a b spots₀ spots₁ n₁ (cellAbove (nextCell lo)) (cellAbove hi)
+    going-turn h =
+        let L = lo .0 - 1 in
+        let up : suc L ≡ lo .0 = omega arith in
+        let more : L + 1 ≡ lo .0 = omega arith in
+        let same = g .same in
+        let first : cellUp (a .0) L (a .1) ≡ cellUp (a .0) (lo .0) (a .1) / 2 = up-half (a .0) L (a .1) (omega (arith, g .deep)) ∙ rw up in
+        let last : cellUp (b .0) L (b .1) ≡ cellUp (b .0) (lo .0) (b .1) / 2 = up-half (b .0) L (b .1) (omega (arith, g .deep)) ∙ rw up in
+        record {
+          walking = rw (more, first, last) turned;
+          bottom = g .bottom;
+          same = g .same;
+          deep = omega (arith, g .deep);
+          one = omega (arith, g .one);
+        }
+
+    -- after level 0
+    pub going-end : lo .0 ≡ 0 → (n₁ ≡ length (slotsOf half (a .0) (a .1) (b .1))) × (spots₁ ≡ over (slotsOf half (a .0) (a .1) (b .1)) spots₀)
+    going-end z = walking-end turned (rw z (walk-none _ _ _ _ _)) (walking-fits turned)

@@ -1,6 +1,6 @@
 // How many partitions hold a trip, and how many words a directory has.
+use ruler::Cell;
 use ruler::Ruler;
-use ruler::Time;
 use ruler::power;
 use trip::Trip;
 ghost use mathlib.Core.Path.{_≡_};
@@ -11,25 +11,18 @@ ghost use Rattle.layout.specs.Words.{directoryLength};
 ghost use Rattle.layout.specs.Refusals.{partitionsHolding};
 ghost use Rattle.layout.proofs.Partitions.{Fits};
 
-// The level-m cell of a time.
-pub fn bottom_cell(ruler: Ruler, t: Time) -> u32
-    requires { ⌜ inBounds (ruler .numbers) ≡ true ⌝ }
-    ensures { λ r. ⌜ r ≡ scale ruler .cell t ⌝ }
+// Of the partitions of a level that lie in a trip's cells, from one on, up to another that is not of them, those whose parent does not.
+fn held_here(from: Cell, to: Cell) -> u32
+    requires { ⌜ to .0 ≡ from .0 ⌝ }
+    ensures { λ r. ⌜ (r ≤ 2) × (r + 2 * (to .1 / 2 - (from .1 + 1) / 2) ≡ to .1 - from .1) ⌝ }
 {
-    ruler.cell(ruler.bottom(), t).number()
-}
-
-// Of the partitions from .. to - 1 of a level, which lie in a trip's cells, those whose parent does not.
-fn held_here(from: u32, to: u32) -> u32
-    ensures { λ r. ⌜ (r ≤ 2) × (r + 2 * (to / 2 - (from + 1) / 2) ≡ to - from) ⌝ }
-{
-    if from < to {
-        return from % 2 + to % 2;
+    if to.no_later(from) {
+        return 0;
     }
-    0
+    from.parity() + to.parity()
 }
 
-// As many as hold the trip: at each level the partitions that lie in its cells are from .. to - 1.
+// As many as hold the trip: at each level the partitions that lie in its cells are those from one on, up to another.
 pub fn partitions_holding(ruler: Ruler, t: Trip) -> u32
     requires { ⌜ inBounds (ruler .numbers) ≡ true ⌝ }
     requires { ⌜ Fits (scale ruler) t ⌝ }
@@ -37,20 +30,20 @@ pub fn partitions_holding(ruler: Ruler, t: Trip) -> u32
 {
     let start = t.start;
     let end = t.end;
-    let mut from = bottom_cell(ruler, start);
-    let mut to = bottom_cell(ruler, end) + 1;
+    let mut from = ruler.bottom_cell(start);
+    let mut to = ruler.bottom_cell(end).next();
     let mut level = ruler.bottom();
     let mut held: u32 = 0;
     while 0 < level {
         held += held_here(from, to);
-        from = (from + 1) / 2;
-        to = to / 2;
+        from = from.next().above();
+        to = to.above();
         level -= 1;
     }
-    if from < to {
-        return held + 1;
+    if to.no_later(from) {
+        return held;
     }
-    held
+    held + 1
 }
 
 // As many words as a directory of the levels 0 to m has.

@@ -1,12 +1,12 @@
 -- The partitions of a level, as the code computes them: the bounds of a partition's cells, the test of its parent, and the level of a
 -- partition's number found from the deepest level up.
-use mathlib.Core.Path.{_≡_, refl, sym, ap, _∙_}
+use mathlib.Core.Path.{_≡_, refl, ap}
 use mathlib.Core.Bool.{not, _&&_}
 use Prim.Native.Nat.{ℕ, zero, suc, _+_, _-_, _*_, _/_, _^_, _≤_, _<_}
-use native.Mathlib.Nat.{mul-le-mul-right, two-pow-succ, le-trans}
+use native.Mathlib.Nat.{two-pow-succ, le-trans}
 use native.Mathlib.Numerals.{add-one}
 use native.Mathlib.Omega.{arith}
-use lib.Pow.{pow-pos, pow-mono, pow-add}
+use lib.Pow.{pow-pos, pow-mono}
 use borrow.Author.Tests.{le-leb, lt-leb}
 use Rattle.ruler.specs.Ruler.{deepest}
 use Rattle.layout.specs.Stored.{within, holds}
@@ -15,30 +15,7 @@ use Rattle.layout.proofs.Numbers.{Numbered, numbered}
 
 -- ---- one partition
 
--- a width, a place and a partition's cells are bounded by those of the deepest level
-pub record Small (i width : ℕ) : Type 0 where
-  pub from : i * width ≤ (i + 1) * width
-  pub to : (i + 1) * width ≤ 2 ^ deepest
-  pub some : 1 ≤ (i + 1) * width
-  pub few : i < 2 ^ deepest
-
-pub small : (m L i width : ℕ) → m ≤ deepest → L ≤ m → i < 2 ^ L → width ≡ 2 ^ (m - L) → Small i width
-small m L i width h g l e =
-    let all : L + (m - L) ≡ m = omega arith in
-    let p : 2 ^ L * width ≡ 2 ^ m = ap (λ (k : ℕ). 2 ^ L * k) e ∙ sym (pow-add 2 L (m - L)) ∙ ap (λ (k : ℕ). 2 ^ k) all in
-    let next : i + 1 ≤ 2 ^ L = omega arith in
-    let one : 1 ≤ i + 1 = omega arith in
-    let more : i ≤ i + 1 = omega arith in
-    let deeper : L ≤ deepest = omega arith in
-    let x = mul-le-mul-right width next in
-    let y = mul-le-mul-right width one in
-    let z = mul-le-mul-right width more in
-    let u = pow-mono h in
-    let v = pow-mono deeper in
-    let t = pow-pos (m - L) in
-    record { from = z; to = omega arith; some = omega arith; few = omega arith }
-
-pub holds-top : (m L i a b : ℕ) → L ≡ 0 → holds m L i a b ≡ within m 0 i a b
+pub holds-top : (m L i a b : ℕ) → L ≡ 0 → holds m L i a b ≡ within m L i a b
 unfolding holds
 holds-top m zero i a b e = refl
 holds-top m (suc L) i a b e = absurd (omega arith)

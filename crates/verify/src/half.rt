@@ -5,6 +5,7 @@ use layout::ENTRY_WORDS;
 use layout::Half;
 use layout::Subdivision;
 use layout::subdivision_of;
+use ruler::Cell;
 use ruler::Ruler;
 use ruler::power;
 use store::entry::precedes;
@@ -86,24 +87,24 @@ pub fn offset(dir: &[u32], k: usize) -> usize
     ENTRY_WORDS * dir[k] as usize
 }
 
-// Whether each entry of a part may stand in this subdivision of partition i of a level, and comes after the one before it.
-fn in_row(ruler: Ruler, d: Subdivision, level: u32, i: u32, part: &[u32]) -> bool
+// Whether each entry of a part may stand in this subdivision of a partition, and comes after the one before it.
+fn in_row(ruler: Ruler, d: Subdivision, partition: Cell, part: &[u32]) -> bool
     requires { ⌜ inBounds (ruler .numbers) ≡ true ⌝ }
-    requires { ⌜ (level ≤ scale ruler .m) × (i < 2 ^ level) ⌝ }
-    ensures { λ r. ⌜ r ≡ inRow (standsAt (scale ruler) d level i) (order d) (rows (now (part .entry))) ⌝ }
+    requires { ⌜ (partition .0 ≤ scale ruler .m) × (partition .1 < 2 ^ partition .0) ⌝ }
+    ensures { λ r. ⌜ r ≡ inRow (standsAt (scale ruler) d (partition .0) (partition .1)) (order d) (rows (now (part .entry))) ⌝ }
 {
     let n = part.len() / ENTRY_WORDS;
     if n == 0 {
         return true;
     }
     let mut last = trip_at(part, 0);
-    if !stands(ruler, d, level, i, last) {
+    if !stands(ruler, d, partition, last) {
         return false;
     }
     let mut k: usize = 1;
     while k < n {
         let t = trip_at(part, k);
-        if !(stands(ruler, d, level, i, t) & precedes(d, last, t)) {
+        if !(stands(ruler, d, partition, t) & precedes(d, last, t)) {
             return false;
         }
         last = t;
@@ -122,7 +123,7 @@ fn slot_ok(ruler: Ruler, half: Half, k: usize, part: &[u32]) -> bool
     let level = level_of(ruler.bottom(), p);
     let first = power(level) - 1;
     let d = subdivision_of(half, k % 2 == 1);
-    in_row(ruler, d, level, p - first, part)
+    in_row(ruler, d, Cell::at(level, p - first), part)
 }
 
 // Whether slot k of a half is as it should be.

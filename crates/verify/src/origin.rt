@@ -1,12 +1,11 @@
 // A replica's original: the slot where it has to stand, and a search for it there.
 use crate::half::offset;
-use crate::partition::cell_at;
 use crate::partition::fits;
 use crate::partition::lies_in;
 use layout::ENTRY_WORDS;
 use layout::Subdivision;
+use ruler::Cell;
 use ruler::Ruler;
-use store::counting::bottom_cell;
 use store::entry::trip_at;
 use store::places::slot_number;
 use store::search::find_place;
@@ -25,14 +24,14 @@ ghost use Rattle.verify.specs.Passing.{each, some};
 ghost use Rattle.verify.specs.Local.{fitsTest, halfOk, SlotIn, slotAt, slotsOk, homeLevel, home, sameTrip, isKnown};
 
 // The level of the original entry of a trip with the level-m cells a..b.
-fn home_level(m: u32, a: u32, b: u32) -> u32
-    requires { ⌜ (m ≤ deepest) × (a < 2 ^ m) ⌝ }
-    ensures { λ r. ⌜ r ≡ homeLevel m a b m ⌝ }
+fn home_level(a: Cell, b: Cell) -> u32
+    requires { ⌜ (a .0 ≤ deepest) × (b .0 ≡ a .0) × (a .1 < 2 ^ a .0) ⌝ }
+    ensures { λ r. ⌜ r ≡ homeLevel (a .0) (a .1) (b .1) (a .0) ⌝ }
 {
-    let mut level = m;
+    let mut level = a.level();
     while 0 < level {
         let above = level - 1;
-        if !lies_in(m, above, a >> (m - above), a, b) {
+        if !lies_in(a.at_level(above), a, b) {
             return level;
         }
         level = above;
@@ -46,16 +45,12 @@ fn home(ruler: Ruler, t: Trip) -> usize
     requires { ⌜ fitsTest (scale ruler) t ≡ true ⌝ }
     ensures { λ r. ⌜ r ≡ home (scale ruler) t ⌝ }
 {
-    let start = t.start;
-    let end = t.end;
-    let level = home_level(
-        ruler.bottom(),
-        bottom_cell(ruler, start),
-        bottom_cell(ruler, end),
-    );
-    let i = cell_at(ruler, level, start);
-    let ends = cell_at(ruler, level, end) == i;
-    slot_number(level, i, !ends) as usize
+    let a = ruler.bottom_cell(t.start);
+    let b = ruler.bottom_cell(t.end);
+    let level = home_level(a, b);
+    let partition = a.at_level(level);
+    let ends = b.at_level(level).same(partition);
+    slot_number(partition, !ends) as usize
 }
 
 // Whether two trips have the same words.

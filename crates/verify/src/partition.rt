@@ -1,62 +1,46 @@
 // One trip in one partition: whether it may stand there.
 use layout::Subdivision;
+use ruler::Cell;
 use ruler::Ruler;
-use ruler::Time;
 use ruler::power;
-use store::counting::bottom_cell;
 use trip::Trip;
 ghost use mathlib.Core.Path.{_≡_};
 ghost use mathlib.Core.Bool.{true};
 ghost use Prim.Native.Nat.{_^_, _<_, _≤_};
-ghost use Rattle.ruler.specs.Ruler.{deepest, inBounds, scale, cellUp};
+ghost use Rattle.ruler.specs.Ruler.{deepest, inBounds, scale};
 ghost use Rattle.layout.specs.Stored.{within, holds, holdsTrip, isOf};
 ghost use Rattle.layout.specs.Words.{levelOf};
 ghost use Rattle.verify.specs.Local.{fitsTest, standsAt};
 
-// Whether all cells of partition i of a level lie in a..b.
-pub fn lies_in(m: u32, level: u32, i: u32, a: u32, b: u32) -> bool
-    requires { ⌜ (m ≤ deepest) × (level ≤ m) × (i < 2 ^ level) ⌝ }
-    ensures { λ r. ⌜ r ≡ within m level i a b ⌝ }
+// Whether all cells of a partition lie in a..b.
+pub fn lies_in(partition: Cell, a: Cell, b: Cell) -> bool
+    requires { ⌜ (a .0 ≤ deepest) × (b .0 ≡ a .0) × (partition .0 ≤ a .0) × (partition .1 < 2 ^ partition .0) ⌝ }
+    ensures { λ r. ⌜ r ≡ within (a .0) (partition .0) (partition .1) (a .1) (b .1) ⌝ }
 {
-    let width = power(m - level);
-    (a <= i * width) & ((i + 1) * width - 1 <= b)
+    let m = a.level();
+    a.no_later(partition.first_at(m)) & partition.last_at(m).no_later(b)
 }
 
-// Whether partition i of a level holds a trip with the level-m cells a..b.
-fn holds(m: u32, level: u32, i: u32, a: u32, b: u32) -> bool
-    requires { ⌜ (m ≤ deepest) × (level ≤ m) × (i < 2 ^ level) ⌝ }
-    ensures { λ r. ⌜ r ≡ holds m level i a b ⌝ }
+// Whether a partition holds a trip with the level-m cells a..b.
+fn holds(partition: Cell, a: Cell, b: Cell) -> bool
+    requires { ⌜ (a .0 ≤ deepest) × (b .0 ≡ a .0) × (partition .0 ≤ a .0) × (partition .1 < 2 ^ partition .0) ⌝ }
+    ensures { λ r. ⌜ r ≡ holds (a .0) (partition .0) (partition .1) (a .1) (b .1) ⌝ }
 {
-    if level == 0 {
-        return lies_in(m, 0, i, a, b);
+    if partition.level() == 0 {
+        return lies_in(partition, a, b);
     }
-    lies_in(m, level, i, a, b) & !lies_in(m, level - 1, i / 2, a, b)
+    lies_in(partition, a, b) & !lies_in(partition.above(), a, b)
 }
 
-// The number of a time's cell at a level.
-pub fn cell_at(ruler: Ruler, level: u32, t: Time) -> u32
+// Whether a partition holds the trip.
+fn holds_trip(ruler: Ruler, partition: Cell, t: Trip) -> bool
     requires { ⌜ inBounds (ruler .numbers) ≡ true ⌝ }
-    requires { ⌜ level ≤ scale ruler .m ⌝ }
-    ensures { λ r. ⌜ r ≡ cellUp (scale ruler .m) level (scale ruler .cell t) ⌝ }
-{
-    ruler.cell(level, t).number()
-}
-
-// Whether partition i of a level holds the trip.
-fn holds_trip(ruler: Ruler, level: u32, i: u32, t: Trip) -> bool
-    requires { ⌜ inBounds (ruler .numbers) ≡ true ⌝ }
-    requires { ⌜ (level ≤ scale ruler .m) × (i < 2 ^ level) ⌝ }
-    ensures { λ r. ⌜ r ≡ holdsTrip (scale ruler) level i t ⌝ }
+    requires { ⌜ (partition .0 ≤ scale ruler .m) × (partition .1 < 2 ^ partition .0) ⌝ }
+    ensures { λ r. ⌜ r ≡ holdsTrip (scale ruler) (partition .0) (partition .1) t ⌝ }
 {
     let start = t.start;
     let end = t.end;
-    holds(
-        ruler.bottom(),
-        level,
-        i,
-        bottom_cell(ruler, start),
-        bottom_cell(ruler, end),
-    )
+    holds(partition, ruler.bottom_cell(start), ruler.bottom_cell(end))
 }
 
 // Whether an entry that is original or not, and "in" or not, is one of this subdivision.
@@ -81,17 +65,18 @@ pub fn fits(ruler: Ruler, t: Trip) -> bool
     ruler.has(start) & (ruler.has(end) & start.no_later(end))
 }
 
-// Whether the trip may stand in this subdivision of partition i of a level.
-pub fn stands(ruler: Ruler, d: Subdivision, level: u32, i: u32, t: Trip) -> bool
+// Whether the trip may stand in this subdivision of a partition.
+pub fn stands(ruler: Ruler, d: Subdivision, partition: Cell, t: Trip) -> bool
     requires { ⌜ inBounds (ruler .numbers) ≡ true ⌝ }
-    requires { ⌜ (level ≤ scale ruler .m) × (i < 2 ^ level) ⌝ }
-    ensures { λ r. ⌜ r ≡ standsAt (scale ruler) d level i t ⌝ }
+    requires { ⌜ (partition .0 ≤ scale ruler .m) × (partition .1 < 2 ^ partition .0) ⌝ }
+    ensures { λ r. ⌜ r ≡ standsAt (scale ruler) d (partition .0) (partition .1) t ⌝ }
 {
     let start = t.start;
     let end = t.end;
-    let original = cell_at(ruler, level, start) == i;
-    let ends = cell_at(ruler, level, end) == i;
-    fits(ruler, t) & (holds_trip(ruler, level, i, t) & is_of(d, original, ends))
+    let level = partition.level();
+    let original = ruler.cell(level, start).same(partition);
+    let ends = ruler.cell(level, end).same(partition);
+    fits(ruler, t) & (holds_trip(ruler, partition, t) & is_of(d, original, ends))
 }
 
 // The level of partition p.

@@ -2,6 +2,7 @@
 use layout::ENTRY_WORDS;
 use layout::Half;
 use layout::Subdivision;
+use ruler::Cell;
 use ruler::power;
 use store::places::slot_number;
 ghost use mathlib.Core.Path.{_≡_};
@@ -60,7 +61,7 @@ pub fn slot_at(m: u32, level: u32, i: u32, d: Subdivision) -> usize
     requires { ⌜ (m ≤ deepest) × (level ≤ m) × (i < 2 ^ level) ⌝ }
     ensures { λ r. ⌜ r ≡ slotAt m level i d ⌝ }
 {
-    half_from(m, half_of(d)) + slot_number(level, i, is_aft(d)) as usize
+    half_from(m, half_of(d)) + slot_number(Cell::at(level, i), is_aft(d)) as usize
 }
 
 // The part of an arena that the entries of a slot have.

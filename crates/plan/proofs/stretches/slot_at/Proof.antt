@@ -1,7 +1,5 @@
--- The partition's number at the level, doubled; all of it is small.
-use Prim.Native.Nat.{_-_}
-use lib.Pow.{pow-pos, pow-mono, shr-le}
-use Rattle.ruler.specs.Ruler.{cellUp}
+-- The partition's number at the level, doubled.
+use Rattle.ruler.proofs.Levels.{up-lt}
 use Rattle.layout.specs.Words.{partitionNumber}
 use Rattle.plan.specs.Plan.{firstSlot}
 use native.Mathlib.Omega.{arith}
@@ -9,66 +7,25 @@ use borrow.Author.Needs.{needs}
 use Rattle.plan.proofs.stretches.slot_at.Statement.{statement}
 use Rattle.plan.proofs.stretches.slot_at.Tie as tie
 
-number-requires : tie.Need-number-requires
-number-requires c κs = search needs
+at-level-requires : tie.Need-at-level-requires
+at-level-requires c κs = search needs
 
-level-requires : tie.Need-level-requires
-level-requires c κs = search needs
-
-sub-number : tie.Need-sub-number
-sub-number c = search needs
-
-shr-number : tie.Need-shr-number
-shr-number c = search needs
-
-power-requires : tie.Need-power-requires
-power-requires c κs = search needs
+rank-requires : tie.Need-rank-requires
+rank-requires c κs =
+    let s = c .before in
+    let g = s .args .cell in
+    let there = up-lt (g .0) (s .args .level) (g .1) (s .pre .0) (s .pre .2) in
+    rw (c .at-level .ensures) (omega arith, omega arith)
 
 cast-result : tie.Need-cast-result
 cast-result c = search needs
 
-sub-result : tie.Need-sub-result
-sub-result c = omega (arith, c .power .ensures, pow-pos (c .before .before .before .args .level))
-
-cast-result-2 : tie.Need-cast-result-2
-cast-result-2 c = omega (arith, shr-le (c .before .before .number .result) (c .before .level .result - c .before .before .before .args .level))
-
-add-result : tie.Need-add-result
-add-result c =
-    let g = c .before .before .before .args in
-    omega (
-      arith,
-      c .power .ensures,
-      pow-mono {i = g .level} {j = 10} (omega arith),
-      shr-le (c .before .before .number .result) (c .before .level .result - g .level),
-    )
-
 mul-result : tie.Need-mul-result
-mul-result c =
-    let g = c .before .before .before .args in
-    omega (
-      arith,
-      c .power .ensures,
-      pow-mono {i = g .level} {j = 10} (omega arith),
-      shr-le (c .before .before .number .result) (c .before .level .result - g .level),
-    )
+mul-result c = search needs
 
 returns : tie.Need-returns
-unfolding firstSlot partitionNumber cellUp
-returns c = rw (c .power .ensures, c .before .level .ensures, c .before .before .number .ensures)
+unfolding firstSlot partitionNumber
+returns c = rw (c .rank .ensures, c .before .at-level .ensures)
 
 pub slot-at-spec : {M : Type 1} → statement M
-slot-at-spec =
-    tie.close
-    (tie.spec
-    number-requires
-    level-requires
-    sub-number
-    shr-number
-    power-requires
-    cast-result
-    sub-result
-    cast-result-2
-    add-result
-    mul-result
-    returns)
+slot-at-spec = tie.close (tie.spec at-level-requires rank-requires cast-result mul-result returns)

@@ -11,7 +11,10 @@ slot-at-requires : tie.Need-slot-at-requires
 slot-at-requires c κs = search needs
 
 slot-at-requires-2 : tie.Need-slot-at-requires-2
-slot-at-requires-2 c κs = search needs
+slot-at-requires-2 c κs =
+    let s = c .before .before .before in
+    let r = s .pre .0 in
+    rw (r .high-level) (s .pre .1, r .deep, r .bounded)
 
 sure-first-requires : tie.Need-sure-first-requires
 sure-first-requires c κs = search needs

@@ -5,8 +5,14 @@ use borrow.Author.Needs.{needs}
 use Rattle.store.proofs.places.visited.Statement.{statement}
 use Rattle.store.proofs.places.visited.Tie as tie
 
+same-requires : tie.Need-same-requires
+same-requires c κs = search needs
+
 is-of-requires : tie.Need-is-of-requires
 is-of-requires c κs = search needs
+
+same-requires-2 : tie.Need-same-requires-2
+same-requires-2 c κs = search needs
 
 slot-number-requires : tie.Need-slot-number-requires
 slot-number-requires c κs = search needs
@@ -26,20 +32,22 @@ same-length c = search needs
 returns : tie.Need-returns
 unfolding visit
 returns c =
-    let e = rw (c .before .before .is-of .ensures) at (c .before .if1 .taken) in
-    (rw e, rw (e, c .slot-number .ensures))
+    let e = rw (c .before .before .before .is-of .ensures, c .before .before .before .before .same .ensures) at (c .before .before .if1 .taken) in
+    record { many = rw e; words = rw (e, c .slot-number .ensures, c .before .same2 .ensures) }
 
 returns-2 : tie.Need-returns-2
 unfolding visit
 returns-2 c =
-    let e = rw (c .before .is-of .ensures) at (c .if1 .left) in
-    (rw e (omega arith), rw e)
+    let e = rw (c .before .is-of .ensures, c .before .before .same .ensures) at (c .if1 .left) in
+    record { many = rw e (omega arith); words = rw e }
 
 pub visited-spec : {M : Type 1} → statement M
 visited-spec =
     tie.close
     (tie.spec
+    same-requires
     is-of-requires
+    same-requires-2
     slot-number-requires
     mul-spots
     slice-write-spots

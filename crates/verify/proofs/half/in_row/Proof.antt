@@ -14,18 +14,18 @@ use Rattle.verify.proofs.half.in_row.Statement.{statement}
 use Rattle.verify.proofs.half.in_row.Tie as tie
 
 abbrev Inv-loop : tie.InvT-loop
-Inv-loop ruler d level i part n last₀ k₀ last k =
-    let p = standsAt (scale ruler) d level i in
+Inv-loop ruler d partition part n last₀ k₀ last k =
+    let p = standsAt (scale ruler) d (partition .0) (partition .1) in
     after p (order d) last (drop k (rows part)) ≡ inRow p (order d) (rows part)
 
 abbrev μ-loop : tie.MeasureT-loop
-μ-loop ruler d level i part n last₀ k₀ last k = n - k
+μ-loop ruler d partition part n last₀ k₀ last k = n - k
 
 returns : tie.Need-returns Inv-loop μ-loop
 unfolding entryWords
 returns c =
     let g = c .before .before .args in
-    let p = standsAt (scale (g .ruler)) (g .d) (g .level) (g .i) in
+    let p = standsAt (scale (g .ruler)) (g .d) (g .partition .0) (g .partition .1) in
     sym (row-empty (g .part .now) p (order (g .d)) (omega arith))
 
 trip-at-requires : tie.Need-trip-at-requires Inv-loop μ-loop
@@ -39,7 +39,7 @@ returns-2 : tie.Need-returns-2 Inv-loop μ-loop
 unfolding entryWords
 returns-2 c =
     let g = c .before .before .before .before .before .args in
-    let p = standsAt (scale (g .ruler)) (g .d) (g .level) (g .i) in
+    let p = standsAt (scale (g .ruler)) (g .d) (g .partition .0) (g .partition .1) in
     let first = tripAt (g .part .now) 0 in
     let fails : p first ≡ false = rw (← c .before .before .trip-at .ensures, ← c .before .stands .ensures) (not-true _ (c .if2 .taken)) in
     sym (row-fails (g .part .now) p (order (g .d)) (omega arith) fails)
@@ -48,7 +48,7 @@ loop-holds : tie.Need-loop-holds Inv-loop μ-loop
 unfolding entryWords
 loop-holds c =
     let g = c .before .before .before .before .before .args in
-    let p = standsAt (scale (g .ruler)) (g .d) (g .level) (g .i) in
+    let p = standsAt (scale (g .ruler)) (g .d) (g .partition .0) (g .partition .1) in
     let first = tripAt (g .part .now) 0 in
     let passes : p first ≡ true = rw (← c .before .before .trip-at .ensures, ← c .before .stands .ensures) (not-false _ (c .if2 .left)) in
     rw (c .before .before .trip-at .ensures) (row-first (g .part .now) p (order (g .d)) (omega arith) passes)
@@ -67,7 +67,7 @@ returns-3 : tie.Need-returns-3 Inv-loop μ-loop
 unfolding entryWords
 returns-3 c =
     let g = c .before .before .before .before .before .before .before .before .before .before .before .args in
-    let p = standsAt (scale (g .ruler)) (g .d) (g .level) (g .i) in
+    let p = standsAt (scale (g .ruler)) (g .d) (g .partition .0) (g .partition .1) in
     let k = c .before .before .before .before .before .loop in
     let t = tripAt (g .part .now) (k .k) in
     let read = c .before .before .before .trip-at2 .ensures in
@@ -88,7 +88,7 @@ loop-again : tie.Need-loop-again Inv-loop μ-loop
 unfolding entryWords
 loop-again c =
     let g = c .before .before .before .before .before .before .before .before .before .before .before .args in
-    let p = standsAt (scale (g .ruler)) (g .d) (g .level) (g .i) in
+    let p = standsAt (scale (g .ruler)) (g .d) (g .partition .0) (g .partition .1) in
     let k = c .before .before .before .before .before .loop in
     let t = tripAt (g .part .now) (k .k) in
     let read = c .before .before .before .trip-at2 .ensures in
@@ -101,7 +101,7 @@ returns-4 : tie.Need-returns-4 Inv-loop μ-loop
 unfolding entryWords
 returns-4 c =
     let g = c .before .before .before .before .before .before .before .args in
-    let p = standsAt (scale (g .ruler)) (g .d) (g .level) (g .i) in
+    let p = standsAt (scale (g .ruler)) (g .d) (g .partition .0) (g .partition .1) in
     let k = c .before .loop in
     sym (row-end (g .part .now) p (order (g .d)) (k .last) (k .k) (omega arith)) ∙ k .inv
 

@@ -43,26 +43,30 @@ sub-first c =
 subdivision-of-requires : tie.Need-subdivision-of-requires
 subdivision-of-requires c κs = search needs
 
-sub-in-row : tie.Need-sub-in-row
-sub-in-row c =
+sub-at : tie.Need-sub-at
+sub-at c =
     let g = c .before .before .before .before .before in
     let level = rw (c .before .before .before .bottom .ensures) at (c .before .before .level-of .ensures) in
     placed _ (g .args .k) _ _ (deep-ruler (g .args .ruler) (g .pre .0)) (g .pre .1) level (c .before .power .ensures) .after
 
+at-requires : tie.Need-at-requires
+at-requires c κs = search needs
+
 in-row-requires : tie.Need-in-row-requires
 in-row-requires c κs =
-    let g = c .before .before .before .before .before in
-    let level = rw (c .before .before .before .bottom .ensures) at (c .before .before .level-of .ensures) in
-    let w = placed _ (g .args .k) _ _ (deep-ruler (g .args .ruler) (g .pre .0)) (g .pre .1) level (c .before .power .ensures) in
-    (g .pre .0, (w .deep, w .there))
+    let g = c .before .before .before .before .before .before in
+    let level = rw (c .before .before .before .before .bottom .ensures) at (c .before .before .before .level-of .ensures) in
+    let w = placed _ (g .args .k) _ _ (deep-ruler (g .args .ruler) (g .pre .0)) (g .pre .1) level (c .before .before .power .ensures) in
+    rw (c .at .ensures) (g .pre .0, (w .deep, w .there))
 
 returns : tie.Need-returns
 unfolding slotOk
 returns c =
-    let g = c .before .before .before .before .before .before in
-    let level = rw (c .before .before .before .before .bottom .ensures) at (c .before .before .before .level-of .ensures) in
-    let w = placed _ (g .args .k) _ _ (deep-ruler (g .args .ruler) (g .pre .0)) (g .pre .1) level (c .before .before .power .ensures) in
-    rw (c .in-row .ensures, w .place, level, c .before .subdivision-of .ensures)
+    let k = c .before .before .before in
+    let g = k .before .before .before .before in
+    let level = rw (k .before .before .bottom .ensures) at (k .before .level-of .ensures) in
+    let w = placed _ (g .args .k) _ _ (deep-ruler (g .args .ruler) (g .pre .0)) (g .pre .1) level (k .power .ensures) in
+    rw (c .in-row .ensures, c .before .at .ensures, w .place, level, c .before .before .subdivision-of .ensures)
 
 pub slot-ok-spec : {M : Type 1} → statement M
 slot-ok-spec =
@@ -74,6 +78,7 @@ slot-ok-spec =
     power-requires
     sub-first
     subdivision-of-requires
-    sub-in-row
+    sub-at
+    at-requires
     in-row-requires
     returns)

@@ -1,4 +1,5 @@
 -- The partition of the first cell on the home level, and whether the trip ends there.
+use mathlib.Core.Path.{refl}
 use Prim.Native.Nat.{_≤_}
 use Rattle.ruler.specs.Ruler.{scale}
 use Rattle.layout.specs.Stored.{isIn}
@@ -10,9 +11,6 @@ use borrow.Author.Needs.{needs}
 use Rattle.verify.proofs.origin.home.Statement.{statement}
 use Rattle.verify.proofs.origin.home.Tie as tie
 
-bottom-requires : tie.Need-bottom-requires
-bottom-requires c κs = search needs
-
 bottom-cell-requires : tie.Need-bottom-cell-requires
 bottom-cell-requires c κs = search needs
 
@@ -21,36 +19,38 @@ bottom-cell-requires-2 c κs = search needs
 
 home-level-requires : tie.Need-home-level-requires
 home-level-requires c κs =
-    let g = c .before .before .before .before .before in
+    let g = c .before .before in
     let r = g .args .ruler in
     let first = first-cell r (g .pre .0) (g .args .t) (trip-fits r (g .args .t) (g .pre .0) (g .pre .1)) in
-    rw (c .before .before .bottom .ensures, c .before .bottom-cell .ensures) (deep-ruler r (g .pre .0), first)
+    rw (c .bottom-cell2 .ensures, c .before .bottom-cell .ensures) (deep-ruler r (g .pre .0), refl, first)
 
-cell-at-requires : tie.Need-cell-at-requires
-cell-at-requires c κs =
-    let g = c .before .before .before .before .before .before in
-    let level = rw (c .before .before .before .bottom .ensures, c .before .before .bottom-cell .ensures, c .before .bottom-cell2 .ensures) at
-    (c .home-level .ensures) in
-    (g .pre .0, rw level (level-deep (g .args .ruler) (g .args .t) (g .pre .0) (g .pre .1)))
+at-level-requires : tie.Need-at-level-requires
+at-level-requires c κs =
+    let g = c .before .before .before in
+    let level = rw (c .before .bottom-cell2 .ensures, c .before .before .bottom-cell .ensures) at (c .home-level .ensures) in
+    rw (level, c .before .before .bottom-cell .ensures)
+    (level-deep (g .args .ruler) (g .args .t) (g .pre .0) (g .pre .1), deep-ruler (g .args .ruler) (g .pre .0))
 
-cell-at-requires-2 : tie.Need-cell-at-requires-2
-cell-at-requires-2 c κs =
-    let g = c .before .before .before .before .before .before .before in
+at-level-requires-2 : tie.Need-at-level-requires-2
+at-level-requires-2 c κs =
     let k = c .before in
-    let level = rw (k .before .before .before .bottom .ensures, k .before .before .bottom-cell .ensures, k .before .bottom-cell2 .ensures) at
-    (k .home-level .ensures) in
-    (g .pre .0, rw level (level-deep (g .args .ruler) (g .args .t) (g .pre .0) (g .pre .1)))
+    let g = k .before .before .before in
+    let level = rw (k .before .bottom-cell2 .ensures, k .before .before .bottom-cell .ensures) at (k .home-level .ensures) in
+    rw (level, k .before .bottom-cell2 .ensures)
+    (level-deep (g .args .ruler) (g .args .t) (g .pre .0) (g .pre .1), deep-ruler (g .args .ruler) (g .pre .0))
+
+same-requires : tie.Need-same-requires
+same-requires c κs = search needs
 
 slot-number-requires : tie.Need-slot-number-requires
 slot-number-requires c κs =
-    let g = c .before .before .before .before .before .before .before .before in
+    let k = c .before .before .before in
+    let g = k .before .before .before in
     let r = g .args .ruler in
-    let k = c .before .before in
-    let level = rw (k .before .before .before .bottom .ensures, k .before .before .bottom-cell .ensures, k .before .bottom-cell2 .ensures) at
-    (k .home-level .ensures) in
-    let h : c .before .before .home-level .result ≤ scale r .m = rw level (level-deep r (g .args .t) (g .pre .0) (g .pre .1)) in
+    let level = rw (k .before .bottom-cell2 .ensures, k .before .before .bottom-cell .ensures) at (k .home-level .ensures) in
+    let h : k .home-level .result ≤ scale r .m = rw level (level-deep r (g .args .t) (g .pre .0) (g .pre .1)) in
     let there = place-there r (g .args .t) (g .pre .0) (g .pre .1) _ h in
-    (omega (arith, deep-ruler r (g .pre .0)), omega (arith, c .before .cell-at .ensures))
+    rw (c .before .before .at-level .ensures, k .before .before .bottom-cell .ensures) (omega (arith, deep-ruler r (g .pre .0)), omega (arith, there))
 
 cast-result : tie.Need-cast-result
 cast-result c = search needs
@@ -58,21 +58,23 @@ cast-result c = search needs
 returns : tie.Need-returns
 unfolding home homeAt isIn
 returns c =
-    let k = c .before .before .before in
-    let level = rw (k .before .before .before .bottom .ensures, k .before .before .bottom-cell .ensures, k .before .bottom-cell2 .ensures) at
-    (k .home-level .ensures) in
-    rw (c .slot-number .ensures, c .before .cell-at2 .ensures, c .before .before .cell-at .ensures, level)
+    let k = c .before .before .before .before in
+    let b = k .before .bottom-cell2 .ensures in
+    let a = k .before .before .bottom-cell .ensures in
+    let level = rw (b, a) at (k .home-level .ensures) in
+    let p = c .before .before .before .at-level .ensures in
+    rw (c .slot-number .ensures, c .before .same .ensures, c .before .before .at-level2 .ensures, p, b, a, level)
 
 pub home-spec : {M : Type 1} → statement M
 home-spec =
     tie.close
     (tie.spec
-    bottom-requires
     bottom-cell-requires
     bottom-cell-requires-2
     home-level-requires
-    cell-at-requires
-    cell-at-requires-2
+    at-level-requires
+    at-level-requires-2
+    same-requires
     slot-number-requires
     cast-result
     returns)

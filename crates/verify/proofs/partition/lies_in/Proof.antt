@@ -1,34 +1,41 @@
--- The first and the last cell of the partition, which are small numbers.
+-- The first and the last cell of the partition, each against its end of a..b.
 use Rattle.layout.specs.Stored.{within, firstCell, lastCell}
-use Rattle.verify.proofs.Places.{small}
-use native.Mathlib.Omega.{arith}
 use borrow.Author.Needs.{needs}
 use Rattle.verify.proofs.partition.lies_in.Statement.{statement}
 use Rattle.verify.proofs.partition.lies_in.Tie as tie
 
-sub-power : tie.Need-sub-power
-sub-power c = search needs
+level-requires : tie.Need-level-requires
+level-requires c κs = search needs
 
-power-requires : tie.Need-power-requires
-power-requires c κs = search needs
+first-at-requires : tie.Need-first-at-requires
+first-at-requires c κs = search needs
 
-mul-result : tie.Need-mul-result
-mul-result c = let b = small _ _ (c .before .args .i) _ (omega arith) (omega arith) (omega arith) (c .power .ensures) in omega arith
+no-later-requires : tie.Need-no-later-requires
+no-later-requires c κs = search needs
 
-add-result : tie.Need-add-result
-add-result c = let b = small _ _ (c .before .args .i) _ (omega arith) (omega arith) (omega arith) (c .power .ensures) in omega arith
+last-at-requires : tie.Need-last-at-requires
+last-at-requires c κs = search needs
 
-mul-result-2 : tie.Need-mul-result-2
-mul-result-2 c = let b = small _ _ (c .before .args .i) _ (omega arith) (omega arith) (omega arith) (c .power .ensures) in omega arith
-
-sub-result : tie.Need-sub-result
-sub-result c = let b = small _ _ (c .before .args .i) _ (omega arith) (omega arith) (omega arith) (c .power .ensures) in omega arith
+no-later-requires-2 : tie.Need-no-later-requires-2
+no-later-requires-2 c κs = search needs
 
 returns : tie.Need-returns
 unfolding within firstCell lastCell
-returns c = rw (c .power .ensures)
+returns c = rw (
+  c .no-later2 .ensures,
+  c .before .last-at .ensures,
+  c .before .before .no-later .ensures,
+  c .before .before .before .first-at .ensures,
+  c .before .before .before .before .level .ensures,
+)
 
 pub lies-in-spec : {M : Type 1} → statement M
 lies-in-spec =
     tie.close
-    (tie.spec sub-power power-requires mul-result add-result mul-result-2 sub-result returns)
+    (tie.spec
+    level-requires
+    first-at-requires
+    no-later-requires
+    last-at-requires
+    no-later-requires-2
+    returns)

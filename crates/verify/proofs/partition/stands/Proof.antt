@@ -5,11 +5,20 @@ use borrow.Author.Needs.{needs}
 use Rattle.verify.proofs.partition.stands.Statement.{statement}
 use Rattle.verify.proofs.partition.stands.Tie as tie
 
-cell-at-requires : tie.Need-cell-at-requires
-cell-at-requires c κs = search needs
+level-requires : tie.Need-level-requires
+level-requires c κs = search needs
 
-cell-at-requires-2 : tie.Need-cell-at-requires-2
-cell-at-requires-2 c κs = search needs
+cell-requires : tie.Need-cell-requires
+cell-requires c κs = search needs
+
+same-requires : tie.Need-same-requires
+same-requires c κs = rw (c .cell .ensures) (c .before .level .ensures)
+
+cell-requires-2 : tie.Need-cell-requires-2
+cell-requires-2 c κs = search needs
+
+same-requires-2 : tie.Need-same-requires-2
+same-requires-2 c κs = rw (c .cell2 .ensures) (c .before .before .before .level .ensures)
 
 fits-requires : tie.Need-fits-requires
 fits-requires c κs = search needs
@@ -23,20 +32,27 @@ is-of-requires c κs = search needs
 returns : tie.Need-returns
 unfolding standsAt belongs isOriginal isIn
 returns c =
+    let k = c .before .before .before .before .before in
     rw (
       c .before .before .fits2 .ensures,
       c .before .holds-trip .ensures,
       c .is-of .ensures,
-      c .before .before .before .before .cell-at .ensures,
-      c .before .before .before .cell-at2 .ensures,
+      c .before .before .before .same2 .ensures,
+      c .before .before .before .before .cell2 .ensures,
+      k .same .ensures,
+      k .before .cell .ensures,
+      k .before .before .level .ensures,
     )
 
 pub stands-spec : {M : Type 1} → statement M
 stands-spec =
     tie.close
     (tie.spec
-    cell-at-requires
-    cell-at-requires-2
+    level-requires
+    cell-requires
+    same-requires
+    cell-requires-2
+    same-requires-2
     fits-requires
     holds-trip-requires
     is-of-requires
