@@ -197,7 +197,8 @@ module _ (ends : Bool) (bounds : Bounds) (u : Trip) where
   unfolding timely has
   too-late e = rw e (and-false (noLater (spanOf ends bounds .from) (timeOf ends u)))
 
-  in-time : earlierThan ends (spanOf ends bounds .from) u ≡ false → earlierThan ends (spanOf ends bounds .until) u ≡ true → timely ends bounds u ≡ true
+  in-time : earlierThan ends (spanOf ends bounds .from) u ≡ false → earlierThan ends (spanOf ends bounds .until) u ≡ true
+      → timely ends bounds u ≡ true
   unfolding timely has
   in-time e l =
       let h = ltb-false (timeOf ends u .0) (spanOf ends bounds .from .0) e in

@@ -76,7 +76,8 @@ list-tested-requires c κs = let s = c .before .before .before .before .before .
 add-result : tie.Need-add-result
 unfolding stretchWords entryWords
 add-result c = let s = c .before .before .before .before .before .before .before .before .before .before .before in
-    omega (arith, c .before .before .list-tested .ensures .counted, ap length (cut-matches _ _ _ _ (c .before .before .before .before .cut .ensures)), s .pre .1 .1)
+    let same = ap length (cut-matches _ _ _ _ (c .before .before .before .before .cut .ensures)) in
+    omega (arith, c .before .before .list-tested .ensures .counted, same, s .pre .1 .1)
 
 same-length : tie.Need-same-length
 same-length c = search needs
@@ -84,7 +85,8 @@ same-length c = search needs
 returns : tie.Need-returns
 unfolding stretchWords entryWords
 returns c = let g = c .before .before .before .before .before .before .before .before .before .before .before .args in
-    lent-back (g .out .now) (g .n) (rw (cut-matches _ _ _ _ (c .before .before .before .before .cut .ensures)) at (c .before .before .list-tested .ensures))
+    let same = cut-matches _ _ _ _ (c .before .before .before .before .cut .ensures) in
+    lent-back (g .out .now) (g .n) (rw same at (c .before .before .list-tested .ensures))
 
 pub list-slot-spec : {M : Type 1} → statement M
 list-slot-spec =
