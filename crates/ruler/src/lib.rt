@@ -6,9 +6,9 @@ ghost use Rattle.ruler.specs.Ruler.{timeAt, before, sameTime, noLater, n
 ghost use Rattle.ruler.specs.Ruler.{cellOf, cellAt, bottomCell, sameCell, noLaterCell, nextCell, cellAbove, cellIn, parity, firstOfTwo};
 ghost use Rattle.ruler.specs.Ruler.{firstIn, lastIn, begins, cellRank};
 
-// A raw time: whole seconds on the service day, which may pass 24:00:00. Its field is private: outside this crate a time is only what
-// the functions below make of it, and none but `Ruler::cell` and `Ruler::bottom_cell` has to do with a cell. Its number leaves it by
-// `seconds`, which only the writer of an entry's words calls (store/src/entry.rt).
+// A raw time: whole seconds on the service day, which may pass 24:00:00. Its field is private: outside this crate a time can only be given
+// to the functions below, of which none but `Ruler::cell` and `Ruler::bottom_cell` has to do with cells. Its number leaves it by `seconds`,
+// which is called only where an entry's words are written (store/src/entry.rt).
 pub struct Time(u32);
 
 impl Time {
@@ -51,9 +51,9 @@ impl Time {
     }
 }
 
-// A cell at a level: the level, and the cell's number there. A partition is the cell of its level that it covers. Where a range of cells
-// ends with a level, the cell one past the level's last is its end. The fields are private: a cell's number leaves it by `rank` alone, of
-// which slot numbers are made (store/src/places.rt, plan/src/stretches.rt). Cells are compared at one level only.
+// A cell at a level: the level, and the cell's number there. A partition is the cell of its level that it covers. A range of cells that goes
+// to a level's last ends at the cell one past it. The fields are private, and cells are compared at one level only. A cell's number leaves it
+// by `rank`, which is called only where a slot's number is made (store/src/places.rt, plan/src/stretches.rt); `parity` gives its last bit.
 pub struct Cell(u32, u32);
 
 impl Cell {
