@@ -10,7 +10,9 @@ use Rattle.export.specs.declared.Said.{Said}
 use Rattle.export.specs.declared.Told.{Told}
 use Rattle.export.specs.Said.{Left, left, Heard, told, Counted, counted}
 use Rattle.dialogue.specs.declared.Turned.{Turned}
+use Rattle.dialogue.specs.declared.feed.Fed.{Fed}
 use Rattle.dialogue.specs.Session.{Turn, Done}
+use Rattle.dialogue.specs.Feeding as feeding
 
 -- a result alone
 abbrev pub One : {A : Type 0} → (said : A) → Type 0
@@ -38,4 +40,10 @@ OneCounted said = (r q : Said) (c d : List (List ℕ)) → counted r c ≡ said 
 abbrev pub OneTurn : Turn → (reply : List ℕ) → Type 0
 OneTurn said reply =
     (r q : Turned) (y z : Index) (l m : List ℕ) (bytes others : List ℕ) → Done said r y l reply bytes → Done said q z m reply others
+    → (r ≡ q) × (y ≡ z) × (l ≡ m) × (bytes ≡ others)
+
+-- some of the session's input, with the same after it
+abbrev pub OneFeed : feeding.Feed → (out : List ℕ) → Type 0
+OneFeed said out =
+    (r q : Fed) (y z : Index) (l m : List ℕ) (bytes others : List ℕ) → feeding.Left said r y l out bytes → feeding.Left said q z m out others
     → (r ≡ q) × (y ≡ z) × (l ≡ m) × (bytes ≡ others)
