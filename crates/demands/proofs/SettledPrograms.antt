@@ -1,12 +1,11 @@
 -- The same for what programs call: the C functions, and a turn of the session.
-use mathlib.Core.Path.{_≡_, sym, ap, _∙_}
+use mathlib.Core.Path.{sym, ap, _∙_}
 use mathlib.Core.List.{List}
 use Prim.Native.Nat.{ℕ}
 use Rattle.layout.specs.Words.{Index}
 use Rattle.export.specs.Said.{Left, left, Heard, told, Counted, counted, buildSaid, checkSaid, addSaid, removeSaid, askSaid, censusSaid, runSaid}
 use Rattle.text.specs.Command.{commandOf}
-use Rattle.dialogue.specs.declared.Turned.{Turned}
-use Rattle.dialogue.specs.Session.{State, state, Turn, Done, turnOf}
+use Rattle.dialogue.specs.Session.{State, state, Turn, turnOf}
 use Rattle.demands.specs.Settled.{One, OneLeft, OneHeard, OneCounted, OneTurn}
 use Rattle.demands.proofs.Settled.{settled}
 
