@@ -1,9 +1,9 @@
 -- How a question ends: refused at a link of its chain, with the list as found, or accepted with the ids in order in its first words.
-use mathlib.Core.Path.{_≡_, refl, sym, ap, _∙_}
-use mathlib.Core.Bool.{Bool, true, false, not, _&&_}
+use mathlib.Core.Path.{_≡_, sym, ap, _∙_}
+use mathlib.Core.Bool.{true, false, _&&_}
 use mathlib.Core.List.{List, _++_}
 use Prim.Native.Nat.{ℕ}
-use lib.Dec.{T, leb, ltb}
+use lib.Dec.{leb, ltb}
 use lib.ListN.{length, take, drop}
 use lib.Seq.{take-at, drop-at}
 use borrow.Author.Tests.{ltb-false, not-false}
@@ -22,7 +22,7 @@ use Rattle.layout.specs.declared.Refusal.the-variants.{OffRuler, Backward, NoRe
 use Rattle.layout.specs.declared.Outcome.{Outcome}
 use Rattle.layout.specs.declared.Outcome.the-variants.{Accepted, Refused}
 use Rattle.layout.specs.Answers.{answer, answerTo}
-use Rattle.layout.specs.Refusals.{refuse, offRuler, backward, noSuchCode, timeTests, windowTests, roomTest, tableOf, checkOutcome, askOutcome}
+use Rattle.layout.specs.Refusals.{offRuler, backward, noSuchCode, timeTests, windowTests, roomTest, tableOf, checkOutcome, askOutcome}
 use Rattle.layout.specs.Calls.{ifAccepted, asked, askOf}
 use Rattle.layout.specs.Words.{Index}
 use Rattle.layout.proofs.Checked.{refused-for-all, passed}

@@ -1,10 +1,9 @@
 -- Demand 2: "Exact." Each statement holds for EVERY table that gives the words, `IndexOf`; that the words of an accepted call have one is
 -- proofs/Edits.antt.
-use mathlib.Core.Path.{_≡_, refl, sym, ap, _∙_}
+use mathlib.Core.Path.{_≡_, sym, _∙_}
 use mathlib.Core.Logic.{_↔_}
-use mathlib.Core.List.{List, [], _∷_, map, List·Memᴰ as Mem}
+use mathlib.Core.List.{List, map, List·Memᴰ as Mem}
 use Prim.Native.Nat.{ℕ, _≤_, _<_}
-use native.Mathlib.Omega.{arith}
 use lib.Dec.{T, leb, ltb}
 use lib.ListN.{length}
 use Rattle.lists.specs.Lists.{keep, over}
@@ -23,7 +22,7 @@ use Rattle.layout.specs.declared.Refusal.the-variants.{NoRoom}
 use Rattle.layout.specs.declared.Outcome.the-variants.{Accepted, Refused}
 use Rattle.layout.specs.Words.{rows, Reordered, Index, lengthsOf, layout}
 use Rattle.layout.specs.Answers.{matches, answer, question, subdivisionNumbered, census, runWords, runFrom}
-use Rattle.layout.specs.Refusals.{windowTests, IndexOf, askOutcome, runOutcome, checkOutcome}
+use Rattle.layout.specs.Refusals.{windowTests, IndexOf, runOutcome, checkOutcome}
 use Rattle.layout.specs.Calls.{ifAccepted, leaving, buildOf, asked, askOf, censusOf, runOf, runFromOf}
 use Rattle.layout.proofs.Chains.{has-room, no-room, of-room, of-no-room}
 use Rattle.layout.proofs.Indexes.{given-table, given-indexed, given-fair}

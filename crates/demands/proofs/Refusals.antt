@@ -2,9 +2,9 @@
 -- input is proofs/Settled.antt; that none faults and all end is what the checker proves of each function.) A result is given by what the public
 -- contracts say of it, and by nothing else: `buildOf`, `addOf`, `removeOf`, `askOf`, `censusOf` and `runOf` (layout/specs/Calls.antt) are the
 -- right-hand sides of their equations.
-use mathlib.Core.Path.{_≡_, refl, sym, _∙_}
+use mathlib.Core.Path.{_≡_, sym, _∙_}
 use mathlib.Core.Logic.{_↔_}
-use mathlib.Core.Bool.{true, false}
+use mathlib.Core.Bool.{false}
 use mathlib.Core.List.{List, []}
 use Prim.Native.Nat.{ℕ}
 use native.Mathlib.Omega.{arith}
@@ -20,7 +20,7 @@ use Rattle.layout.specs.declared.Refusal.the-variants.{NotAnIndex}
 use Rattle.layout.specs.declared.Outcome.{Outcome}
 use Rattle.layout.specs.declared.Outcome.the-variants.{Accepted, Refused}
 use Rattle.layout.specs.Words.{directoryLength, Index}
-use Rattle.layout.specs.Refusals.{refusalNumber, numberOf, refuse, timeTests, rowTests, windowTests, roomTest, IndexOf, IndexOfSome, isIndex, indexTests, addOutcome, removeOutcome, askOutcome, runOutcome, checkOutcome}
+use Rattle.layout.specs.Refusals.{refusalNumber, numberOf, refuse, timeTests, rowTests, windowTests, roomTest, IndexOfSome, isIndex, indexTests, addOutcome, removeOutcome, askOutcome, runOutcome, checkOutcome}
 use Rattle.layout.specs.Calls.{ifAccepted, leaving, buildOf, addOf, removeOf, askOf, censusOf, noCensus, runOf}
 use Rattle.layout.proofs.Chains.{refused-not}
 use Rattle.layout.proofs.Indexes.{to-isIndex, given-indexed, given-fair, index-of-some}

@@ -1,6 +1,6 @@
 -- "any two results allowed by it are proved the same": one general law, and one line for each public function of the index. The other functions that
 -- a crate shows have contracts of the form `r ≡ ..`, which `settled` serves as it stands (see docs/DECISIONS.md for those that are of another form).
-use mathlib.Core.Path.{_≡_, sym, ap, _∙_}
+use mathlib.Core.Path.{sym, ap, _∙_}
 use mathlib.Core.List.{List}
 use Prim.Native.Nat.{ℕ}
 use Rattle.lists.specs.Lists.{ascending}

@@ -1,11 +1,11 @@
 -- The stand-ins that document 01 says to try, each excluded: no function that meets the contract of its call is one. A contract is an equation with
 -- `buildOf`, `askOf`, `addOf` or `removeOf`, so that a few small calls, computed, are enough.
 use mathlib.Core.Path.{_≡_, refl, sym, ap, _∙_}
-use mathlib.Core.Bool.{Bool, true, false, true≢false}
+use mathlib.Core.Bool.{true, false, true≢false}
 use mathlib.Core.List.{List, [], _∷_}
 use Prim.Native.Nat.{ℕ}
 use native.Mathlib.Omega.{arith}
-use lib.ListN.{length, getD, take}
+use lib.ListN.{getD}
 use Rattle.lists.specs.Lists.{every, same, count, padded, keep, insert, sort, joined, upTo, over}
 use Rattle.ruler.specs.Ruler.{timeAt, inBounds, scaleOf, cellUp, judge}
 use Rattle.trip.specs.declared.Trip.{Trip}
@@ -15,7 +15,7 @@ use Rattle.layout.specs.declared.Outcome.the-variants.{Refused}
 use Rattle.layout.specs.Stored.{partitionsAt, firstCell, lastCell, within, holds, holdsTrip, isOriginal, isIn, subdivisionOf, isOf, belongs}
 use Rattle.layout.specs.Words.{Index, entryWords, tripWords, tripAt, words, rows, partitions, directoryLength, halfLength, partitionNumber, levelOf, placeOf, slotNumber, byId, byStart, byEnd, order, slotTrips, slot, entriesBefore, entries, directoryHalf, arena, lengthsOf, layout}
 use Rattle.layout.specs.Answers.{matches, answer, answerTo, subdivisionNumber, subdivisionNumbered, levelCount, levelRow, census, halfOf, isAft, runWords, runFrom}
-use Rattle.layout.specs.Refusals.{detailOf, isAccepted, refuse, outOfBounds, badSize, full, badDirectory, offRuler, backward, hasId, noRoom, exceeds, noSuchCode, partitionsHolding, inTooMany, noSuchSlot, timeTests, rowTests, firstBadRow, buildOutcome, tableOf, sameIndex, gives, isIndex, indexTests, addOutcome, removeOutcome, windowTests, roomTest, askOutcome, runOutcome, checkOutcome}
+use Rattle.layout.specs.Refusals.{isAccepted, refuse, outOfBounds, badSize, full, badDirectory, offRuler, backward, hasId, noRoom, exceeds, noSuchCode, partitionsHolding, inTooMany, noSuchSlot, timeTests, rowTests, firstBadRow, buildOutcome, tableOf, sameIndex, gives, isIndex, indexTests, addOutcome, removeOutcome, windowTests, roomTest, askOutcome, runOutcome, checkOutcome}
 use Rattle.layout.specs.Calls.{After, Asked, index, ifAccepted, leaving, buildOf, addOf, without, removeOf, askOf, noCensus, censusOf, runOf, runFromOf}
 use Rattle.demands.specs.StandIns.{ruler, all-of, accepted, listed, OnlyOk, RightOnce}
 

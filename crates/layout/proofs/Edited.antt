@@ -1,17 +1,16 @@
 -- Edits as laws on the definitions: what an accepted edit tells, that the words after it are again an index, and that they are what a build
 -- writes for ANY table that gives the words before.
-use mathlib.Core.Path.{_≡_, refl, sym, ap, subst, _∙_}
-use mathlib.Core.Bool.{Bool, true, false, not}
-use mathlib.Core.List.{List, [], _∷_, _++_, List·Memᴰ as Mem, List·Memᴰ·head as here, List·Memᴰ·tail as there, List·Memᴰ·not-nil as not-nil}
-use Prim.Native.Nat.{ℕ, suc, _+_, _*_, _/_, _%_, _≤_, _<_}
+use mathlib.Core.Path.{_≡_, sym, ap, _∙_}
+use mathlib.Core.Bool.{not}
+use mathlib.Core.List.{List, [], _∷_, List·Memᴰ as Mem, List·Memᴰ·head as here, List·Memᴰ·tail as there, List·Memᴰ·not-nil as not-nil}
+use Prim.Native.Nat.{ℕ, _+_, _*_, _/_, _%_, _≤_, _<_}
 use native.Mathlib.Omega.{arith}
 use native.Mathlib.Nat.{le-trans}
-use lib.Dec.{T, leb, eqb, leb→le, eqb→eq, eqb-refl, nleb→lt, T-not, not-T}
+use lib.Dec.{T, eqb, eqb→eq, eqb-refl, nleb→lt, T-not, not-T}
 use lib.Arith.{lt→nleb}
 use lib.ListN.{length}
-use Rattle.lists.specs.Lists.{consIf, keep}
 use Rattle.lists.proofs.Tests.{of-not-not, to-not-not}
-use Rattle.lists.proofs.Members.{In, Pairs, none, more, keep-length, keep-shorter, of-keep, to-keep, keep-in, pairs-keep}
+use Rattle.lists.proofs.Members.{In, more, keep-length, keep-shorter, of-keep, to-keep, keep-in, pairs-keep}
 use Rattle.ruler.specs.Ruler.{Scale, mostTrips}
 use Rattle.ruler.proofs.Fair.{Fair}
 use Rattle.trip.specs.declared.Trip.{Trip}
@@ -19,14 +18,14 @@ use Rattle.layout.specs.declared.Half.the-variants.{Originals, Replicas}
 use Rattle.layout.specs.declared.Refusal.the-variants.{TableSize}
 use Rattle.layout.specs.declared.Outcome.{Outcome}
 use Rattle.layout.specs.declared.Outcome.the-variants.{Accepted, Refused}
-use Rattle.layout.specs.Words.{entryWords, tripWords, words, rows, directoryLength, entries, Index, Lengths, lengthsOf, layout}
-use Rattle.layout.specs.Refusals.{refuse, full, hasId, tableOf, isIndex, indexTests, buildOutcome, addOutcome, removeOutcome}
-use Rattle.layout.specs.Calls.{ifAccepted, After, after, leaving, buildOf, addOf, without, removeOf}
-use Rattle.layout.proofs.RowOrder.{OtherId, Distinct, layout-same, entries-same}
-use Rattle.layout.proofs.Rows.{rows-cons, rows-words, words-rows, words-cons, words-le}
-use Rattle.layout.proofs.Chains.{Room, refuse-no, refuse-pass, refuse-taken, of-outOfBounds, to-outOfBounds, of-badDirectory, to-badDirectory, of-hasId, of-noRoom, to-noRoom}
+use Rattle.layout.specs.Words.{words, Index, Lengths, lengthsOf, layout}
+use Rattle.layout.specs.Refusals.{full, hasId, tableOf, isIndex, indexTests, addOutcome, removeOutcome}
+use Rattle.layout.specs.Calls.{ifAccepted, after, leaving, buildOf, addOf, without, removeOf}
+use Rattle.layout.proofs.RowOrder.{Distinct, layout-same, entries-same}
+use Rattle.layout.proofs.Rows.{rows-words, words-le}
+use Rattle.layout.proofs.Chains.{Room, refuse-no, refuse-pass, refuse-taken, to-outOfBounds, to-badDirectory, of-noRoom, to-noRoom}
 use Rattle.layout.proofs.Edits.{entries-without}
-use Rattle.layout.proofs.Tables.{RowOk, of-rowTests, to-rowTests, RowsOk, rows-more, Table, of-build, to-build}
+use Rattle.layout.proofs.Tables.{RowOk, of-rowTests, to-rowTests, RowsOk, rows-more, Table, to-build}
 use Rattle.layout.proofs.Indexes.{layout-lengths, Indexed, of-isIndex, to-isIndex, table-again, indexed, back-in, in-back, back-length}
 
 -- ---- the tests 1, 3, 8 of a call on an index

@@ -1,8 +1,8 @@
 -- "Room freed by a removal serves the next addition": any trip that passes its own tests and has no more entries in either half than the trip taken
 -- out had is added at once, however little room the arenas have.
-use mathlib.Core.Path.{_≡_, refl, sym, ap, _∙_}
+use mathlib.Core.Path.{_≡_, sym, ap, _∙_}
 use mathlib.Core.List.{List, [], _∷_, List·Memᴰ as Mem, List·Memᴰ·head as here, List·Memᴰ·tail as there}
-use Prim.Native.Nat.{ℕ, _+_, _*_, _^_, _≤_, _<_}
+use Prim.Native.Nat.{ℕ, _+_, _≤_}
 use native.Mathlib.Omega.{arith}
 use native.Mathlib.Decide.{ℕ-discrete}
 use native.Mathlib.Nat.{le-trans, mul-le-mul-left}
@@ -14,14 +14,14 @@ use Rattle.trip.specs.declared.Trip.{Trip}
 use Rattle.layout.specs.declared.Half.{Half}
 use Rattle.layout.specs.declared.Half.the-variants.{Originals, Replicas}
 use Rattle.layout.specs.declared.Outcome.the-variants.{Accepted}
-use Rattle.layout.specs.Words.{entryWords, words, rows, entries, Index, lengthsOf}
+use Rattle.layout.specs.Words.{entryWords, words, rows, entries, Index}
 use Rattle.layout.specs.Refusals.{IndexOf, tableOf, rowTests, addOutcome}
 use Rattle.layout.specs.Calls.{without, removeOf}
-use Rattle.layout.proofs.RowOrder.{Distinct, entries-same, length-same}
+use Rattle.layout.proofs.RowOrder.{Distinct, entries-same}
 use Rattle.layout.proofs.Slots.{same-id}
 use Rattle.layout.proofs.Rows.{rows-words}
 use Rattle.layout.proofs.Partitions.{Fits}
-use Rattle.layout.proofs.Tables.{RowOk, of-rowTests}
+use Rattle.layout.proofs.Tables.{of-rowTests}
 use Rattle.layout.proofs.Indexes.{given-table, given-indexed}
 use Rattle.layout.proofs.RoomAdded.{entries-added}
 use Rattle.layout.proofs.Edited.{to-add, of-without, to-without, without-distinct, without-shorter, table-in}

@@ -1,7 +1,7 @@
 -- What an index shows is the same for EVERY table that gives its words: the answers, the census, the runs, and so what the calls return.
-use mathlib.Core.Path.{_≡_, refl, sym, ap, _∙_, fun-ext}
+use mathlib.Core.Path.{_≡_, ap, _∙_, fun-ext}
 use mathlib.Core.Bool.{cond}
-use mathlib.Core.List.{List, [], _∷_, map}
+use mathlib.Core.List.{List, map}
 use Prim.Native.Nat.{ℕ, suc, _*_}
 use lib.Dec.{leb}
 use lib.ListN.{length, length-map}
@@ -19,13 +19,12 @@ use Rattle.trip.proofs.Naming.{named-within}
 use Rattle.layout.specs.declared.Half.{Half}
 use Rattle.layout.specs.declared.Subdivision.{Subdivision}
 use Rattle.layout.specs.declared.Subdivision.the-variants.{OIn, OAft, RIn, RAft}
-use Rattle.layout.specs.declared.Outcome.{Outcome}
 use Rattle.layout.specs.declared.Outcome.the-variants.{Accepted}
 use Rattle.layout.specs.Stored.{partitionsAt}
-use Rattle.layout.specs.Words.{entryWords, rows, words, slotNumber, slotTrips, entriesBefore, entries, Index}
+use Rattle.layout.specs.Words.{entryWords, rows, words, slotNumber, slotTrips, entries, Index}
 use Rattle.layout.specs.Answers.{matches, answer, question, answerTo, levelCount, levelRow, census, halfOf, isAft, runWords, runFrom}
 use Rattle.layout.specs.Refusals.{IndexOf, tableOf, noSuchCode, windowTests, roomTest, askOutcome}
-use Rattle.layout.specs.Calls.{Asked, asked, ifAccepted, askOf}
+use Rattle.layout.specs.Calls.{asked, ifAccepted, askOf}
 use Rattle.layout.proofs.Chains.{refuse-pass, window-pass}
 use Rattle.layout.proofs.RowOrder.{Distinct, slotTrips-same, before-same, entries-same, length-same}
 use Rattle.layout.proofs.Indexes.{given-table, given-indexed}

@@ -14,7 +14,7 @@ use Rattle.lists.proofs.Padded.{padded-length}
 use Rattle.lists.proofs.Same.{same-eq, same-refl}
 use Rattle.lists.proofs.Upto.{length-upTo, getD-upTo}
 use Rattle.ruler.specs.declared.Numbers.{Numbers}
-use Rattle.ruler.specs.Ruler.{Scale, inBounds, scaleOf}
+use Rattle.ruler.specs.Ruler.{Scale, scaleOf}
 use Rattle.ruler.proofs.Fair.{Fair, fair}
 use Rattle.trip.specs.declared.Trip.{Trip}
 use Rattle.layout.specs.declared.Half.{Half}

@@ -1,7 +1,7 @@
 -- The words that an accepted build, addition or removal leaves are the index of the new table, in buffers of the same lengths.
 use mathlib.Core.Path.{_≡_, refl, sym, ap, subst, _∙_}
 use mathlib.Core.Bool.{Bool, true, false, not}
-use mathlib.Core.List.{List, _∷_, _++_, List·Memᴰ as Mem}
+use mathlib.Core.List.{List, _++_, List·Memᴰ as Mem}
 use Prim.Native.Nat.{ℕ, _≤_}
 use lib.Dec.{T}
 use lib.ListN.{length}
@@ -15,7 +15,6 @@ use Rattle.trip.specs.declared.Window.{Window}
 use Rattle.trip.specs.declared.Relationship.{Relationship}
 use Rattle.trip.specs.Relationships.{codeOf}
 use Rattle.trip.proofs.Codes.{named-code}
-use Rattle.layout.specs.declared.Outcome.{Outcome}
 use Rattle.layout.specs.declared.Outcome.the-variants.{Accepted}
 use Rattle.layout.specs.Words.{tripWords, words, rows, Index, lengthsOf, layout}
 use Rattle.layout.specs.Answers.{matches, answer, question}

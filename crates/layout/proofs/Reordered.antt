@@ -3,19 +3,19 @@
 use mathlib.Core.Path.{_≡_, refl, sym, ap, _∙_}
 use mathlib.Core.Bool.{Bool, true, false, not}
 use mathlib.Core.List.{List, [], _∷_, List·Memᴰ as Mem, List·Memᴰ·head as here, List·Memᴰ·tail as there, List·Memᴰ·not-nil as not-nil}
-use Prim.Native.Nat.{ℕ, suc, _*_, _/_, _%_, _≤_}
+use Prim.Native.Nat.{ℕ, suc, _/_, _%_, _≤_}
 use native.Mathlib.Omega.{arith}
 use lib.Dec.{T, eqb, eqb→eq, not-T}
 use lib.ListN.{length}
 use Rattle.lists.specs.Lists.{consIf, keep}
 use Rattle.lists.proofs.Kept.{keep-all}
 use Rattle.lists.proofs.Members.{In, none, more}
-use Rattle.ruler.specs.Ruler.{Scale, mostTrips}
+use Rattle.ruler.specs.Ruler.{Scale}
 use Rattle.trip.specs.declared.Trip.{Trip}
 use Rattle.layout.specs.declared.Half.the-variants.{Originals, Replicas}
 use Rattle.layout.specs.declared.Outcome.the-variants.{Accepted}
-use Rattle.layout.specs.Words.{entryWords, words, rows, Reordered, Index, Lengths, lengthsOf, layout}
-use Rattle.layout.specs.Calls.{After, after, leaving, buildOf, without}
+use Rattle.layout.specs.Words.{entryWords, rows, Reordered, Index, lengthsOf}
+use Rattle.layout.specs.Calls.{after, leaving, buildOf, without}
 use Rattle.layout.proofs.RowOrder.{OtherId, Distinct, entries-same, layout-same}
 use Rattle.layout.proofs.Slots.{same-id}
 use Rattle.layout.proofs.Rows.{words-rows, length-rows}
