@@ -1,14 +1,14 @@
 -- What the code holds is what the definitions hold: after a line, after a byte, and from byte to byte of a chunk.
 -- Assumes nothing.
 use mathlib.Core.Path.{_≡_, refl, sym, ap, _∙_}
-use mathlib.Core.Bool.{Bool, true, false, cond, _&&_}
+use mathlib.Core.Bool.{true, false, _&&_}
 use mathlib.Core.List.{List, [], _∷_, _++_, append-assoc}
 use Prim.Native.Nat.{ℕ, suc, _+_, _-_, _*_, _≤_, _<_}
 use native.Mathlib.Nat.{zero-add}
 use native.Mathlib.Numerals.{add-one}
 use native.Mathlib.Omega.{arith}
 use borrow.Author.Tests.{eq-eqb, ne-eqb}
-use lib.Dec.{ltb, eqb}
+use lib.Dec.{ltb}
 use lib.ListN.{length, take, drop, getD, set, replicate, length-append, length-take, length-drop, take-append-drop}
 use lib.Seq.{sets, sets-eq, length-sets, take-all, take-at, set-at, take-suc-set, length-take-le, drop-cons, drop-length, drop-drop, drop-append-le}
 use borrow.Rule.Slice.PartMut.{midOf, putMid}
@@ -22,7 +22,7 @@ use Rattle.text.specs.Command.{commandOf}
 use Rattle.dialogue.specs.declared.Turned.{Turned}
 use Rattle.dialogue.specs.declared.feed.Standing.{Standing}
 use Rattle.dialogue.specs.declared.feed.Fed.{Fed}
-use Rattle.dialogue.specs.Session.{deepestHere, mostReply, State, state, turnOf, Done}
+use Rattle.dialogue.specs.Session.{mostReply, state, turnOf, Done}
 use Rattle.dialogue.specs.Feeding.{lineKept, Held, held, Feed, leaving, lineDone, byteKept, byteOf, feedOf, endOf, heldBy, Sound, Left}
 use Rattle.dialogue.proofs.Turns.{done-keeps}
 

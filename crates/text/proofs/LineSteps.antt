@@ -1,11 +1,11 @@
 -- An input byte by byte: the lines of one whose first line has begun.
 -- Assumes nothing.
-use mathlib.Core.Path.{_≡_, _∙_}
+use mathlib.Core.Path.{_≡_}
 use mathlib.Core.Bool.{true, false}
 use mathlib.Core.List.{List, [], _∷_, _++_, append-nil, append-assoc}
 use Prim.Native.Nat.{ℕ}
 use lib.Dec.{eqb}
-use Rattle.text.specs.Bytes.{newline, onFirst, parted}
+use Rattle.text.specs.Bytes.{newline, parted}
 use Rattle.text.specs.Lines.{unlessEmpty, withoutEmptyLast, linesOf}
 use Rattle.text.proofs.Parting.{parted-first}
 

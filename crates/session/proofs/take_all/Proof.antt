@@ -2,7 +2,6 @@
 use Rattle.layout.specs.Calls.{index}
 use Rattle.dialogue.specs.Feeding.{heldBy, Sound, Reached}
 use Rattle.dialogue.proofs.Feeding.{reached-start, reached-more}
-use native.Mathlib.Omega.{arith}
 use borrow.Author.Needs.{needs}
 use Rattle.session.proofs.take_all.Statement.{statement}
 use Rattle.session.proofs.take_all.Tie as tie

@@ -1,6 +1,5 @@
 -- The words lent have room for each line that may end in a chunk.
 use Rattle.layout.specs.Words.{directoryLength, partitions}
-use native.Mathlib.Omega.{arith}
 use borrow.Author.Needs.{needs}
 use Rattle.session.proofs.take_chunk.Statement.{statement}
 use Rattle.session.proofs.take_chunk.Tie as tie

@@ -1,6 +1,5 @@
 -- The words lent have room for a last line.
 use Rattle.layout.specs.Words.{directoryLength, partitions}
-use native.Mathlib.Omega.{arith}
 use borrow.Author.Needs.{needs}
 use Rattle.session.proofs.take_end.Statement.{statement}
 use Rattle.session.proofs.take_end.Tie as tie

@@ -3,7 +3,6 @@ use mathlib.Core.Path.{refl}
 use Rattle.lists.specs.Lists.{padded}
 use Rattle.dialogue.specs.Session.{start}
 use native.Mathlib.Omega.{arith}
-use borrow.Author.Needs.{needs}
 use Rattle.dialogue.proofs.feed.begin.Statement.{statement}
 use Rattle.dialogue.proofs.feed.begin.Tie as tie
 

@@ -1,7 +1,6 @@
 -- What is held is the last line, and where nothing is, there is none.
 use Rattle.layout.specs.Calls.{index}
 use Rattle.dialogue.proofs.Holding.{end-line, end-silent}
-use native.Mathlib.Omega.{arith}
 use borrow.Author.Needs.{needs}
 use Rattle.dialogue.proofs.feed.finish.Statement.{statement}
 use Rattle.dialogue.proofs.feed.finish.Tie as tie

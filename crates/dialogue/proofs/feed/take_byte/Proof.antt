@@ -2,7 +2,6 @@
 use borrow.Author.Tests.{not-true, not-false}
 use Rattle.layout.specs.Calls.{index}
 use Rattle.dialogue.proofs.Holding.{byte-over, byte-ends, byte-stays}
-use native.Mathlib.Omega.{arith}
 use borrow.Author.Needs.{needs}
 use Rattle.dialogue.proofs.feed.take_byte.Statement.{statement}
 use Rattle.dialogue.proofs.feed.take_byte.Tie as tie
