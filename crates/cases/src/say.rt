@@ -1,16 +1,10 @@
-// What a case writes, comparing what it got, and the trips that several parts try.
-use layout::ENTRY_WORDS;
+// What a case writes, comparing what it got, and trips and windows by their numbers.
 use layout::Outcome;
 use libc::STDOUT_FILENO;
 use ruler::Numbers;
 use ruler::Time;
 use trip::Trip;
 use trip::Window;
-ghost use Prim.Native.Nat.{_+_, _*_, _≤_};
-ghost use lib.ListN.{length};
-
-// "Ruler w = 6, m = 4; trips 7 [21,38], 3 [20,20], 9 [0,63], 4 [39,40]."
-pub const FOUR: [u32; 12] = [7, 21, 38, 3, 20, 20, 9, 0, 63, 4, 39, 40];
 
 // One case: whether it is right, and its name.
 pub fn case(right: bool, name: &[u8]) {
@@ -41,26 +35,6 @@ pub fn same(a: &[u32], b: &[u32]) -> bool {
         i += 1;
     }
     true
-}
-
-// Whether the words from one place to before another are this one.
-pub fn stretch(words: &[u32], from: usize, to: usize, word: u32) -> bool {
-    if words.len() < to {
-        return false;
-    }
-    let mut i = from;
-    while i < to {
-        if words[i] != word {
-            return false;
-        }
-        i += 1;
-    }
-    true
-}
-
-// Whether every word is this one.
-pub fn all_are(words: &[u32], word: u32) -> bool {
-    stretch(words, 0, words.len(), word)
 }
 
 // Whether a build of the table, into the lists of the second index, gives the words of the first.
@@ -95,31 +69,5 @@ pub fn window(start: u32, end: u32) -> Window {
     Window {
         start: Time::at(start),
         end: Time::at(end),
-    }
-}
-
-// Row i of a table.
-pub fn row(table: &[u32], i: usize) -> Trip
-    requires { do ⌜ (← ⟦ENTRY_WORDS⟧) * (i + 1) ≤ length (now table) ⌝ }
-{
-    let at = ENTRY_WORDS * i;
-    trip(table[at], table[at + 1], table[at + 2])
-}
-
-pub fn put_row(table: &mut [u32], row: usize, id: u32, start: u32, end: u32)
-    requires { do ⌜ (← ⟦ENTRY_WORDS⟧) * (row + 1) ≤ length (now table) ⌝ }
-{
-    let at = ENTRY_WORDS * row;
-    table[at] = id;
-    table[at + 1] = start;
-    table[at + 2] = end;
-}
-
-// Rows 0, 1, .. of trips with the same times.
-pub fn fill_rows(table: &mut [u32], start: u32, end: u32) {
-    let mut i: usize = 0;
-    while i < table.len() / ENTRY_WORDS {
-        put_row(table, i, (i % 65536) as u32, start, end);
-        i += 1;
     }
 }

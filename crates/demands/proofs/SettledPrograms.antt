@@ -1,17 +1,16 @@
 -- The same for what programs call: the C functions, and the session's turns, chunks and end.
-use mathlib.Core.Path.{_≡_, sym, ap, _∙_}
+use mathlib.Core.Path.{_≡_, refl, sym, ap, _∙_}
 use mathlib.Core.List.{List}
 use Prim.Native.Nat.{ℕ}
 use native.Mathlib.Omega.{arith}
-use lib.ListN.{length, take, replicate, length-append, length-replicate}
+use lib.ListN.{length, take, length-append, length-replicate}
 use lib.Seq.{length-take-le}
 use Rattle.lists.specs.Lists.{padded}
 use Rattle.layout.specs.Words.{Index}
 use Rattle.export.specs.Said.{Left, left, Heard, told, Counted, counted, buildSaid, checkSaid, addSaid, removeSaid, askSaid, censusSaid, runSaid}
 use Rattle.text.specs.Command.{commandOf}
-use Rattle.dialogue.specs.declared.Turned.{Turned}
 use Rattle.dialogue.specs.declared.feed.Standing.{Standing}
-use Rattle.dialogue.specs.Session.{State, state, Turn, Done, turnOf}
+use Rattle.dialogue.specs.Session.{State, state, Turn, turnOf}
 use Rattle.dialogue.specs.Feeding.{lineKept, Held, Feed, Sound, feedOf, endOf}
 use Rattle.demands.specs.Settled.{One, OneLeft, OneHeard, OneCounted, OneTurn, OneFeed}
 use Rattle.demands.proofs.Settled.{settled}

@@ -4,8 +4,8 @@ use Prim.Native.Nat.{_≤_, _-_}
 use lib.ListN.{length}
 use native.Mathlib.Omega.{arith}
 use borrow.Author.Needs.{needs}
-use Rattle.cases.proofs.say.fill_rows.Statement.{statement}
-use Rattle.cases.proofs.say.fill_rows.Tie as tie
+use Rattle.cases.proofs.full_cases.fill_rows.Statement.{statement}
+use Rattle.cases.proofs.full_cases.fill_rows.Tie as tie
 
 abbrev Inv-loop : tie.InvT-loop
 Inv-loop table₀ start end i₀ table i = (length table ≡ length table₀) × (i ≤ length table₀)

@@ -2,8 +2,8 @@
 use lib.ListN.{length-set}
 use native.Mathlib.Omega.{arith}
 use borrow.Author.Needs.{needs}
-use Rattle.cases.proofs.say.put_row.Statement.{statement}
-use Rattle.cases.proofs.say.put_row.Tie as tie
+use Rattle.cases.proofs.full_cases.put_row.Statement.{statement}
+use Rattle.cases.proofs.full_cases.put_row.Tie as tie
 
 mul-at : tie.Need-mul-at
 mul-at c = search needs

@@ -1,0 +1,99 @@
+// Document 01's examples that a program runs: two questions and the census of its four trips, tables of one trip, and the empty table.
+use crate::say;
+
+// Two questions to the four trips, in a list of four words. The list has the id first, and after it the words that it had.
+fn lists_one(d: &[u32], o: &[u32], r: &[u32], code: u32, start: u32, end: u32, id: u32) -> bool {
+    let mut answers = [5u32; 4];
+    let window = say::window(start, end);
+    let answered = ask::ask(say::ruler(6, 4), d, o, r, code, window, &mut answers);
+    let outcome = answered.outcome;
+    say::is(outcome, 0, 0) & (answered.count == 1) & say::same(&answers, &[id, 5, 5, 5])
+}
+
+// "CONTAINED_BY [1,62]: 9. FINISHES [30,38]: 7."
+fn questions(d: &[u32], o: &[u32], r: &[u32]) {
+    say::case(lists_one(d, o, r, 10, 1, 62, 9), b"CONTAINED_BY [1,62]: 9");
+    say::case(lists_one(d, o, r, 3, 30, 38, 7), b"FINISHES [30,38]: 7");
+}
+
+// "Census: level 0 is 1,0,0,0; level 3 is 0,0,1,1; level 4 is 1,2,1,0; others zero."
+fn census(d: &[u32], o: &[u32], r: &[u32]) {
+    let outcome = view::census_outcome(say::ruler(6, 4), d, o, r);
+    let rows = view::census(say::ruler(6, 4), d, o, r);
+    let top = say::same(&rows[0], &[1, 0, 0, 0]) & say::same(&rows[1], &[0; 4]);
+    let middle = say::same(&rows[2], &[0; 4]) & say::same(&rows[3], &[0, 0, 1, 1]);
+    let bottom = say::same(&rows[4], &[1, 2, 1, 0]) & say::same(&rows[5], &[0; 4]);
+    say::case(
+        say::is(outcome, 0, 0) & top & middle & bottom,
+        b"census of the four trips",
+    );
+}
+
+// "Ruler w = 6, m = 4; trips 7 [21,38], 3 [20,20], 9 [0,63], 4 [39,40]."
+fn four_trips() {
+    let mut directory = [7u32; 126];
+    let mut originals = [7u32; 12];
+    let mut replicas = [7u32; 12];
+    build::build(
+        say::ruler(6, 4),
+        &[7, 21, 38, 3, 20, 20, 9, 0, 63, 4, 39, 40],
+        &mut directory,
+        &mut originals,
+        &mut replicas,
+    );
+    questions(&directory, &originals, &replicas);
+    census(&directory, &originals, &replicas);
+}
+
+// "w = 1, m = 1, trip 5 [0,0]: originals half 0,0,0,1,1,1,1; replicas half all 0."
+fn one_second() {
+    let right = say::gives(
+        say::ruler(1, 1),
+        &[5, 0, 0],
+        &[0, 0, 0, 1, 1, 1, 1, 0, 0, 0, 0, 0, 0, 0],
+        &[5, 0, 0, 0],
+        &[0, 0],
+        &mut [7; 14],
+        &mut [7; 4],
+        &mut [7; 2],
+    );
+    say::case(right, b"w 1 m 1, trip 5 [0,0]");
+}
+
+// "w = 1, m = 0, trip 5 [0,1]: directory 0,1,1,0,0,0."
+fn one_level() {
+    let right = say::gives(
+        say::ruler(1, 0),
+        &[5, 0, 1],
+        &[0, 1, 1, 0, 0, 0],
+        &[5, 0, 1],
+        &[0, 0, 0],
+        &mut [7; 6],
+        &mut [7; 3],
+        &mut [7; 3],
+    );
+    say::case(right, b"w 1 m 0, trip 5 [0,1]");
+}
+
+// "Empty table: all words 0, accepted even with empty arenas."
+fn empty_table() {
+    let none: [u32; 0] = [];
+    let right = say::gives(
+        say::ruler(6, 4),
+        &none,
+        &[0; 126],
+        &none,
+        &none,
+        &mut [7; 126],
+        &mut [],
+        &mut [],
+    );
+    say::case(right, b"an empty table");
+}
+
+pub fn all() {
+    four_trips();
+    one_second();
+    one_level();
+    empty_table();
+}
