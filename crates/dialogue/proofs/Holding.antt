@@ -1,7 +1,7 @@
 -- What the code holds is what the definitions hold: after a line, after a byte, and from byte to byte of a chunk.
 -- Assumes nothing.
 use mathlib.Core.Path.{_≡_, refl, sym, ap, _∙_}
-use mathlib.Core.Bool.{true, false, _&&_}
+use mathlib.Core.Bool.{Bool, true, false, _&&_}
 use mathlib.Core.List.{List, [], _∷_, _++_, append-assoc}
 use Prim.Native.Nat.{ℕ, suc, _+_, _-_, _*_, _≤_, _<_}
 use native.Mathlib.Nat.{zero-add}
@@ -19,6 +19,7 @@ use Rattle.lists.proofs.Stores.{sets-append}
 use Rattle.layout.specs.Words.{Index}
 use Rattle.text.specs.Bytes.{newline}
 use Rattle.text.specs.Command.{commandOf}
+use Rattle.dialogue.specs.declared.Desk.{Desk}
 use Rattle.dialogue.specs.declared.Turned.{Turned}
 use Rattle.dialogue.specs.declared.feed.Standing.{Standing}
 use Rattle.dialogue.specs.declared.feed.Fed.{Fed}
@@ -76,6 +77,19 @@ module _ {s : Standing} (sound : Sound s) where
   unfolding byteKept line
   byte-lost b h x l = ap (λ (m : List ℕ). held (state (s .desk) x l) m (s .more))
       (sym (take-at line (b ∷ []) lineKept (omega (arith, holds, sound .within))))
+
+-- so what is held settles every word of what the code holds
+pub one-standing : {s t : Standing} → Sound s → Sound t → (x : Index) (l : List ℕ) → heldBy s x l ≡ heldBy t x l → s ≡ t
+unfolding line
+one-standing {s} {t} a b x l e =
+    let same : take (s .held) (s .line) ≡ take (t .held) (t .line) = ap (λ (h : Held). h .line) e in
+    let count : s .held ≡ t .held = sym (holds a) ∙ ap length same ∙ holds b in
+    let whole : s .line ≡ t .line = a .zeros ∙ ap (padded lineKept) same ∙ sym (b .zeros) in
+    let desk : s .desk ≡ t .desk = ap (λ (h : Held). h .keeps .desk) e in
+    let more : s .more ≡ t .more = ap (λ (h : Held). h .goesOn) e in
+    let made : Desk → List ℕ → ℕ → Bool → Standing = λ d m n b. record { desk = d; line = m; held = n; more = b } in
+    ap (λ (d : Desk). made d (s .line) (s .held) (s .more)) desk ∙ ap (λ (m : List ℕ). made (t .desk) m (s .held) (s .more)) whole
+    ∙ ap (λ (n : ℕ). made (t .desk) (t .line) n (s .more)) count ∙ ap (λ (b : Bool). made (t .desk) (t .line) (t .held) b) more
 
 -- ---- A line that ended
 
