@@ -1,17 +1,13 @@
 -- The same for what programs call: the C functions, and the session's turns, chunks and end.
-use mathlib.Core.Path.{_≡_, refl, sym, ap, _∙_}
+use mathlib.Core.Path.{sym, ap, _∙_}
 use mathlib.Core.List.{List}
 use Prim.Native.Nat.{ℕ}
-use native.Mathlib.Omega.{arith}
-use lib.ListN.{length, take, length-append, length-replicate}
-use lib.Seq.{length-take-le}
-use Rattle.lists.specs.Lists.{padded}
 use Rattle.layout.specs.Words.{Index}
 use Rattle.export.specs.Said.{Left, left, Heard, told, Counted, counted, buildSaid, checkSaid, addSaid, removeSaid, askSaid, censusSaid, runSaid}
 use Rattle.text.specs.Command.{commandOf}
-use Rattle.dialogue.specs.declared.feed.Standing.{Standing}
 use Rattle.dialogue.specs.Session.{State, state, Turn, turnOf}
-use Rattle.dialogue.specs.Feeding.{lineKept, Held, Feed, Sound, feedOf, endOf}
+use Rattle.feeding.specs.Feeding.{Held, Feed, feedOf, endOf}
+use Rattle.feeding.proofs.Holding.{one-standing}
 use Rattle.demands.specs.Settled.{One, OneLeft, OneHeard, OneCounted, OneTurn, OneFeed}
 use Rattle.demands.proofs.Settled.{settled}
 
@@ -73,26 +69,13 @@ turn-settled s line reply = one-turn (turnOf s (commandOf line)) reply
 
 -- ---- some of its input
 
--- as many bytes are held as the line kept has
-held-length : (s : Standing) → Sound s → s .held ≡ length (take (s .held) (s .line))
-unfolding padded
-held-length s h =
-    let kept = take (s .held) (s .line) in
-    let whole : length (s .line) ≡ length kept + (lineKept - length kept) =
-    ap length (h .zeros) ∙ length-append kept _ ∙ rw length-replicate refl in
-    sym (length-take-le (s .held) (s .line) (omega (arith, whole, h .within)))
-
 one-feed : (said : Feed) (out : List ℕ) → OneFeed said out
 one-feed said out r q y z l m bytes others a b =
     let same = a .holds ∙ sym (b .holds) in
     let keeps = ap (λ (h : Held). h .keeps) same in
-    let kept = ap (λ (h : Held). h .line) same in
-    let goes = ap (λ (h : Held). h .goesOn) same in
-    let desk = ap (λ (s : State). s .desk) keeps in
-    let line = a .sound .zeros ∙ ap (padded lineKept) kept ∙ sym (b .sound .zeros) in
-    let n = held-length (r .standing) (a .sound) ∙ ap length kept ∙ sym (held-length (q .standing) (b .sound)) in
+    let stands = one-standing (a .sound) (b .sound) y z l m same in
     let count = a .count ∙ sym (b .count) in (
-      (λ i. record { standing = record { desk = desk i; line = line i; held = n i; more = goes i }; written = count i }),
+      (λ i. record { standing = stands i; written = count i }),
       ap (λ (s : State). s .words) keeps,
       ap (λ (s : State). s .answers) keeps,
       a .bytes ∙ sym (b .bytes),

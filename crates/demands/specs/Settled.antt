@@ -10,9 +10,9 @@ use Rattle.export.specs.declared.Said.{Said}
 use Rattle.export.specs.declared.Told.{Told}
 use Rattle.export.specs.Said.{Left, left, Heard, told, Counted, counted}
 use Rattle.dialogue.specs.declared.Turned.{Turned}
-use Rattle.dialogue.specs.declared.feed.Fed.{Fed}
+use Rattle.feeding.specs.declared.Fed.{Fed}
 use Rattle.dialogue.specs.Session.{Turn, Done}
-use Rattle.dialogue.specs.Feeding as feeding
+use Rattle.feeding.specs.Feeding as feeding
 
 -- a result alone
 abbrev pub One : {A : Type 0} → (said : A) → Type 0

@@ -1,5 +1,3 @@
--- The laws of the session's replies and turns, and of an input that comes in chunks.
+-- The laws of the session's replies and turns.
 pub mod Replies
 pub mod Turns
-pub mod Feeding
-pub mod Holding

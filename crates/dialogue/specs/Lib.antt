@@ -1,4 +1,3 @@
--- Document 01, the session program: what it writes, what a line does, and what some of the input does.
+-- Document 01, the session program: what it writes, and what a line does.
 pub mod Reply
 pub mod Session
-pub mod Feeding

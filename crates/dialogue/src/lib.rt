@@ -1,8 +1,7 @@
-// The session program without its reading and writing: what some of the input does to the index, and what is written for it.
+// One turn of the session program: what a line does to the index, and what is written for it.
 use ruler::Numbers;
 
-pub mod feed;
-pub mod reply;
+mod reply;
 pub mod turn;
 
 // What the session keeps beside the words lent to the index.

@@ -1,7 +1,6 @@
 // The session program: it reads standard input in chunks and writes what each is answered. What is held between two chunks, and what a chunk
-// does and is answered, are the proved functions of `dialogue`; this program reads, feeds and writes.
-use dialogue::feed;
-use dialogue::feed::Standing;
+// does and is answered, are the proved functions of `feeding`; this program reads, feeds and writes.
+use feeding::Standing;
 use libc::STDIN_FILENO;
 use libc::STDOUT_FILENO;
 ghost use mathlib.Core.Path.{_≡_};
@@ -9,7 +8,7 @@ ghost use Prim.Native.Nat.{_≤_};
 ghost use lib.ListN.{length};
 ghost use Rattle.layout.specs.Calls.{index};
 ghost use Rattle.dialogue.specs.Session.{state, start};
-ghost use Rattle.dialogue.specs.Feeding.{feedOf, heldBy, Sound, Reached};
+ghost use Rattle.feeding.specs.Feeding.{feedOf, heldBy, Sound, Reached};
 
 // The words lent: a directory for m = 8, 256 originals, 3,328 replicas and 256 answers.
 const DIRECTORY: usize = 2046;
@@ -57,7 +56,7 @@ fn take_chunk(
         ≡ feedOf (heldBy from (index (now (directory .entry)) (now (originals .entry)) (now (replicas .entry))) (now (answers .entry)))
         (now (chunk .entry)) .after) ⌝ }
 {
-    let fed = feed::feed(from, chunk, directory, originals, replicas, answers, out);
+    let fed = feeding::feed(from, chunk, directory, originals, replicas, answers, out);
     write_front(out, fed.written);
     fed.standing
 }
@@ -73,7 +72,7 @@ fn take_end(
 )
     requires { ⌜ Sound standing ⌝ }
 {
-    let fed = feed::finish(standing, directory, originals, replicas, answers, out);
+    let fed = feeding::finish(standing, directory, originals, replicas, answers, out);
     write_front(out, fed.written);
 }
 
@@ -92,7 +91,7 @@ fn take_all(
         × Reached (heldBy r (index (now (directory .exit)) (now (originals .exit)) (now (replicas .exit))) (now (answers .exit))) ⌝ }
 {
     let mut input = [0u8; CHUNK];
-    let mut standing = feed::begin();
+    let mut standing = feeding::begin();
     let mut turns = u64::MAX;
     while 0 < turns {
         let got = read_some(&mut input);
@@ -108,7 +107,7 @@ fn take_all(
             answers,
             out,
         );
-        if !feed::goes_on(standing) {
+        if !feeding::goes_on(standing) {
             return standing;
         }
         turns -= 1;

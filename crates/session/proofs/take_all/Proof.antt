@@ -1,7 +1,7 @@
 -- What is held from chunk to chunk is what some input, fed from the start, leaves. The measure is the number of turns that are left.
 use Rattle.layout.specs.Calls.{index}
-use Rattle.dialogue.specs.Feeding.{heldBy, Sound, Reached}
-use Rattle.dialogue.proofs.Feeding.{reached-start, reached-more}
+use Rattle.feeding.specs.Feeding.{heldBy, Sound, Reached}
+use Rattle.feeding.proofs.Feeding.{reached-start, reached-more}
 use borrow.Author.Needs.{needs}
 use Rattle.session.proofs.take_all.Statement.{statement}
 use Rattle.session.proofs.take_all.Tie as tie

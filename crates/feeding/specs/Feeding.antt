@@ -10,9 +10,9 @@ use Rattle.lists.specs.Lists.{padded}
 use Rattle.layout.specs.Words.{directoryLength, Index}
 use Rattle.text.specs.Bytes.{newline}
 use Rattle.text.specs.Command.{commandOf, longestLine}
-use Rattle.dialogue.specs.declared.feed.Standing.{Standing}
-use Rattle.dialogue.specs.declared.feed.Fed.{Fed}
+use Rattle.feeding.specs.declared.Standing.{Standing}
+use Rattle.feeding.specs.declared.Fed.{Fed}
 use Rattle.dialogue.specs.Session.{deepestHere, mostAnswers, mostReply, State, state, turnOf, start}
 
 -- what is kept of a line: a byte more than any that is not malformed has, so that a longer one stays malformed
 abbrev pub lineKept : ℕ

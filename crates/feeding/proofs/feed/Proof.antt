@@ -3,13 +3,13 @@ use mathlib.Core.Path.{_≡_, refl, _∙_}
 use Prim.Native.Nat.{_+_, _-_, _≤_}
 use lib.ListN.{length}
 use Rattle.layout.specs.Calls.{index}
 use Rattle.dialogue.specs.Session.{mostReply}
-use Rattle.dialogue.specs.Feeding.{heldBy}
-use Rattle.dialogue.proofs.Holding.{Feeding, feeding-start, byte-short, feeding-turn, feeding-end}
+use Rattle.feeding.specs.Feeding.{heldBy}
+use Rattle.feeding.proofs.Holding.{Feeding, feeding-start, byte-short, feeding-turn, feeding-end}
 use native.Mathlib.Omega.{arith}
 use borrow.Author.Needs.{needs}
-use Rattle.dialogue.proofs.feed.feed.Statement.{statement}
-use Rattle.dialogue.proofs.feed.feed.Tie as tie
+use Rattle.feeding.proofs.feed.Statement.{statement}
+use Rattle.feeding.proofs.feed.Tie as tie
 
 abbrev Inv-loop : tie.InvT-loop
 Inv-loop chunk directory₀ originals₀ replicas₀ answers₀ out₀ standing₀ to₀ i₀ directory originals replicas answers out standing to i =

@@ -1,6 +1,6 @@
 // The input as it comes, in chunks that end anywhere: what is held between two of them, and the turns of the lines that end in one.
-use crate::Desk;
-use crate::turn;
+use dialogue::Desk;
+use dialogue::turn;
 use ruler::Numbers;
 ghost use mathlib.Core.Path.{_≡_};
 ghost use mathlib.Core.Bool.{true};
@@ -9,8 +9,8 @@ ghost use Prim.Native.Nat.{ℕ};
 ghost use lib.ListN.{length};
 ghost use Rattle.layout.specs.Words.{Index};
 ghost use Rattle.layout.specs.Calls.{index};
 ghost use Rattle.dialogue.specs.Session.{state, start};
-ghost use Rattle.dialogue.specs.Feeding.{held, lineDone, leaving, byteKept, byteOf, feedOf, endOf, heldBy, Sound, Ready, Left};
+ghost use Rattle.feeding.specs.Feeding.{held, lineDone, leaving, byteKept, byteOf, feedOf, endOf, heldBy, Sound, Ready, Left};
 
 // The byte between lines.
 const NEWLINE: u8 = b'\n';

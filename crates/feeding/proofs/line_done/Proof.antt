@@ -1,9 +1,9 @@
 -- The turn of what is kept, and then nothing is held.
-use Rattle.dialogue.proofs.Holding.{line-room, line-left}
+use Rattle.feeding.proofs.Holding.{line-room, line-left}
 use native.Mathlib.Omega.{arith}
 use borrow.Author.Needs.{needs}
-use Rattle.dialogue.proofs.feed.line_done.Statement.{statement}
-use Rattle.dialogue.proofs.feed.line_done.Tie as tie
+use Rattle.feeding.proofs.line_done.Statement.{statement}
+use Rattle.feeding.proofs.line_done.Tie as tie
 
 sub-turn : tie.Need-sub-turn
 sub-turn c = search needs

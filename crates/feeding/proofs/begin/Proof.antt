@@ -1,10 +1,10 @@
 -- Nothing is held.
 use mathlib.Core.Path.{refl}
 use Rattle.lists.specs.Lists.{padded}
 use Rattle.dialogue.specs.Session.{start}
 use native.Mathlib.Omega.{arith}
-use Rattle.dialogue.proofs.feed.begin.Statement.{statement}
-use Rattle.dialogue.proofs.feed.begin.Tie as tie
+use Rattle.feeding.proofs.begin.Statement.{statement}
+use Rattle.feeding.proofs.begin.Tie as tie
 
 returns : tie.Need-returns
 unfolding start padded

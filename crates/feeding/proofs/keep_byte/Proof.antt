@@ -1,9 +1,9 @@
 -- A byte that has room is kept, and one that has none is not.
-use Rattle.dialogue.proofs.Holding.{byte-kept, byte-lost}
+use Rattle.feeding.proofs.Holding.{byte-kept, byte-lost}
 use native.Mathlib.Omega.{arith}
 use borrow.Author.Needs.{needs}
-use Rattle.dialogue.proofs.feed.keep_byte.Statement.{statement}
-use Rattle.dialogue.proofs.feed.keep_byte.Tie as tie
+use Rattle.feeding.proofs.keep_byte.Statement.{statement}
+use Rattle.feeding.proofs.keep_byte.Tie as tie
 
 element-write-kept : tie.Need-element-write-kept
 element-write-kept c = search needs

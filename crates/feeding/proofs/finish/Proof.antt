@@ -1,9 +1,9 @@
 -- What is held is the last line, and where nothing is, there is none.
 use Rattle.layout.specs.Calls.{index}
-use Rattle.dialogue.proofs.Holding.{end-line, end-silent}
+use Rattle.feeding.proofs.Holding.{end-line, end-silent}
 use borrow.Author.Needs.{needs}
-use Rattle.dialogue.proofs.feed.finish.Statement.{statement}
-use Rattle.dialogue.proofs.feed.finish.Tie as tie
+use Rattle.feeding.proofs.finish.Statement.{statement}
+use Rattle.feeding.proofs.finish.Tie as tie
 
 line-done-requires : tie.Need-line-done-requires
 line-done-requires c κs = search needs

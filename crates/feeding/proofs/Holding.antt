@@ -19,13 +19,13 @@ use Rattle.lists.proofs.Stores.{sets-append}
 use Rattle.layout.specs.Words.{Index}
 use Rattle.text.specs.Bytes.{newline}
 use Rattle.text.specs.Command.{commandOf}
 use Rattle.dialogue.specs.declared.Desk.{Desk}
 use Rattle.dialogue.specs.declared.Turned.{Turned}
-use Rattle.dialogue.specs.declared.feed.Standing.{Standing}
-use Rattle.dialogue.specs.declared.feed.Fed.{Fed}
+use Rattle.feeding.specs.declared.Standing.{Standing}
+use Rattle.feeding.specs.declared.Fed.{Fed}
 use Rattle.dialogue.specs.Session.{mostReply, state, turnOf, Done}
-use Rattle.dialogue.specs.Feeding.{lineKept, Held, held, Feed, leaving, lineDone, byteKept, byteOf, feedOf, endOf, heldBy, Sound, Left}
+use Rattle.feeding.specs.Feeding.{lineKept, Held, held, Feed, leaving, lineDone, byteKept, byteOf, feedOf, endOf, heldBy, Sound, Left}
 use Rattle.dialogue.proofs.Turns.{done-keeps}
 
 -- ---- What is kept of a line
 
@@ -79,9 +79,9 @@ module _ {s : Standing} (sound : Sound s) where
       (sym (take-at line (b ∷ []) lineKept (omega (arith, holds, sound .within))))
 
 -- so what is held settles every word of what the code holds
-pub one-standing : {s t : Standing} → Sound s → Sound t → (x : Index) (l : List ℕ) → heldBy s x l ≡ heldBy t x l → s ≡ t
+pub one-standing : {s t : Standing} → Sound s → Sound t → (x y : Index) (l m : List ℕ) → heldBy s x l ≡ heldBy t y m → s ≡ t
 unfolding line
-one-standing {s} {t} a b x l e =
+one-standing {s} {t} a b x y l m e =
     let same : take (s .held) (s .line) ≡ take (t .held) (t .line) = ap (λ (h : Held). h .line) e in
     let count : s .held ≡ t .held = sym (holds a) ∙ ap length same ∙ holds b in
     let whole : s .line ≡ t .line = a .zeros ∙ ap (padded lineKept) same ∙ sym (b .zeros) in

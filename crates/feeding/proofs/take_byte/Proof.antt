@@ -1,10 +1,10 @@
 -- What the byte is, and whether the session goes on, decide.
 use borrow.Author.Tests.{not-true, not-false}
 use Rattle.layout.specs.Calls.{index}
-use Rattle.dialogue.proofs.Holding.{byte-over, byte-ends, byte-stays}
+use Rattle.feeding.proofs.Holding.{byte-over, byte-ends, byte-stays}
 use borrow.Author.Needs.{needs}
-use Rattle.dialogue.proofs.feed.take_byte.Statement.{statement}
-use Rattle.dialogue.proofs.feed.take_byte.Tie as tie
+use Rattle.feeding.proofs.take_byte.Statement.{statement}
+use Rattle.feeding.proofs.take_byte.Tie as tie
 
 silent-requires : tie.Need-silent-requires
 silent-requires c κs = search needs

@@ -1,0 +1,3 @@
+-- The laws of an input that comes in chunks.
+pub mod Feeding
+pub mod Holding
