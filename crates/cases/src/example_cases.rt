@@ -16,6 +16,13 @@ fn questions(d: &[u32], o: &[u32], r: &[u32]) {
     say::case(lists_one(d, o, r, 3, 30, 38, 7), b"FINISHES [30,38]: 7");
 }
 
+// The rows of the levels that the ruler has not.
+fn no_more_rows(rows: [[u32; 4]; 11]) -> bool {
+    let two = say::same(&rows[6], &[0; 4]) & say::same(&rows[7], &[0; 4]);
+    let more = say::same(&rows[8], &[0; 4]) & say::same(&rows[9], &[0; 4]);
+    two & more & say::same(&rows[10], &[0; 4])
+}
+
 // "Census: level 0 is 1,0,0,0; level 3 is 0,0,1,1; level 4 is 1,2,1,0; others zero."
 fn census(d: &[u32], o: &[u32], r: &[u32]) {
     let outcome = view::census_outcome(say::ruler(6, 4), d, o, r);
@@ -24,7 +31,7 @@ fn census(d: &[u32], o: &[u32], r: &[u32]) {
     let middle = say::same(&rows[2], &[0; 4]) & say::same(&rows[3], &[0, 0, 1, 1]);
     let bottom = say::same(&rows[4], &[1, 2, 1, 0]) & say::same(&rows[5], &[0; 4]);
     say::case(
-        say::is(outcome, 0, 0) & top & middle & bottom,
+        say::is(outcome, 0, 0) & top & middle & bottom & no_more_rows(rows),
         b"census of the four trips",
     );
 }

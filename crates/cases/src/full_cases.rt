@@ -1,7 +1,6 @@
 // The most trips that an index may have: 4,096 in one slot, 4,096 of 18 partitions each, and edits where there is no room for one more.
 use crate::say;
 use layout::ENTRY_WORDS;
-ghost use mathlib.Core.Path.{_≡_};
 ghost use Prim.Native.Nat.{_+_, _*_, _≤_};
 ghost use lib.ListN.{length};
 
@@ -45,16 +44,16 @@ fn most_partitions() {
 }
 
 // Whether the originals of trips that all lie in the first second are their table, with a row's room to spare.
-fn is_table(table: &[u32], originals: &[u32]) -> bool
-    requires { ⌜ (length (now table) ≡ 12288) × (length (now originals) ≡ 12291) ⌝ }
-{
-    say::same(table, &originals[0..12288])
+fn is_table(table: &[u32], originals: &[u32]) -> bool {
+    let n = table.len();
+    if originals.len() < n {
+        return false;
+    }
+    say::same(table, &originals[0..n])
 }
 
 // With 4,096 trips one more gives 2, whatever its times are, and nothing changes.
-fn one_too_many(table: &[u32], directory: &mut [u32], originals: &mut [u32]) -> bool
-    requires { ⌜ (length (now table) ≡ 12288) × (length (now originals) ≡ 12291) ⌝ }
-{
+fn one_too_many(table: &[u32], directory: &mut [u32], originals: &mut [u32]) -> bool {
     let fair = say::trip(5000, 0, 0);
     let refused = edit::add(say::ruler(1, 1), directory, originals, &mut [], fair);
     let bad = say::trip(0, 9, 8);
@@ -63,18 +62,14 @@ fn one_too_many(table: &[u32], directory: &mut [u32], originals: &mut [u32]) -> 
 }
 
 // Trip 17 out and in again: the words are those of the table again.
-fn out_and_in(table: &[u32], directory: &mut [u32], originals: &mut [u32]) -> bool
-    requires { ⌜ (length (now table) ≡ 12288) × (length (now originals) ≡ 12291) ⌝ }
-{
+fn out_and_in(table: &[u32], directory: &mut [u32], originals: &mut [u32]) -> bool {
     let out = edit::remove(say::ruler(1, 1), directory, originals, &mut [], 17);
     let back = say::trip(17, 0, 0);
     let again = edit::add(say::ruler(1, 1), directory, originals, &mut [], back);
     say::is(out, 0, 0) & say::is(again, 0, 0) & is_table(table, originals)
 }
 
-fn edits(table: &[u32], directory: &mut [u32], originals: &mut [u32])
-    requires { ⌜ (length (now table) ≡ 12288) × (length (now originals) ≡ 12291) ⌝ }
-{
+fn edits(table: &[u32], directory: &mut [u32], originals: &mut [u32]) {
     let more = one_too_many(table, directory, originals);
     say::case(more, b"one more than 4096 trips gives 2");
     let same = out_and_in(table, directory, originals);
