@@ -11,8 +11,7 @@ use lib.Seq.{sets, sets-eq, length-sets}
 use borrow.Author.Tests.{lt-ltb}
 use Rattle.lists.proofs.Stores.{sets-append}
 use Rattle.ruler.specs.declared.Cell.{Cell}
-use Rattle.ruler.specs.Ruler.{deepest, cellUp, nextCell, cellAbove, cellIn}
-use Rattle.ruler.proofs.Levels.{up-half, up-bottom}
+use Rattle.ruler.specs.Ruler.{deepest, nextCell, cellAbove}
 use Rattle.layout.specs.declared.Half.{Half}
 use Rattle.lists.specs.Lists.{over}
 use Rattle.layout.specs.Walk.{visit, walk, slotsOf}
@@ -110,76 +109,62 @@ pub half-more : (from level : ℕ) → 0 < level → from ≤ 2 ^ level → (fro
 half-more from level p h = let e : level ≡ suc (level - 1) = omega arith in
     omega (arith, ap (λ (k : ℕ). 2 ^ k) e ∙ two-pow-succ (level - 1))
 
--- ---- the walk over cells: n slots are written, and at the level of lo and hi the partitions from lo on, up to hi, lie in the cells a .. b
+-- ---- the walk over cells: n slots are written, and at a level the partitions from lo on, up to hi, lie in the trip's cells, there first .. last
 
-pub record Going (half : Half) (a b : Cell) (spots₀ spots : List ℕ) (n : ℕ) (lo hi : Cell) : Type 0 where
-  pub walking : Walking half spots₀ spots n (lo .0 + 1) (lo .1) (hi .1) (cellIn (lo .0) a .1) (cellIn (lo .0) b .1)
-      (slotsOf half (a .0) (a .1) (b .1))
-  pub bottom : a .0 ≤ deepest
-  pub same : b .0 ≡ a .0
-  pub deep : lo .0 ≤ a .0
-  pub one : hi .0 ≡ lo .0
+pub record Going (half : Half) (spots₀ spots : List ℕ) (n : ℕ) (lo hi first last : Cell) (whole : List ℕ) : Type 0 where
+  pub walking : Walking half spots₀ spots n (lo .0 + 1) (lo .1) (hi .1) (first .1) (last .1) whole
+  pub high-level : hi .0 ≡ lo .0
+  pub first-level : first .0 ≡ lo .0
+  pub last-level : last .0 ≡ lo .0
 
 pub going-start : (half : Half) (a b : Cell) (spots : List ℕ) → a .0 ≤ deepest → b .0 ≡ a .0 → b .1 < 2 ^ a .0 → mostSlots ≤ length spots
-    → Going half a b spots spots 0 a (nextCell b)
+    → Going half spots spots 0 a (nextCell b) a b (slotsOf half (a .0) (a .1) (b .1))
 unfolding slotsOf
 going-start half a b spots d e l r =
     let inside : 2 ^ (a .0 + 1) ≡ 2 ^ (a .0) + 2 ^ (a .0) = rw add-one (two-pow-succ (a .0)) in
     let start = walking-start half spots (a .0 + 1) (a .1) (b .1 + 1) (a .1) (b .1) (omega arith) (omega arith) (omega arith) in
-    record {
-      walking = rw (e, up-bottom (a .0) (a .1), up-bottom (a .0) (b .1), ← add-one (a .0)) start;
-      bottom = d;
-      same = e;
-      deep = omega arith;
-      one = e;
-    }
+    record { walking = rw (← add-one (a .0)) start; high-level = e; first-level = refl; last-level = e }
 
-module _ {half : Half} {a b : Cell} {spots₀ spots : List ℕ} {n : ℕ} {lo hi : Cell} (g : Going half a b spots₀ spots n lo hi) where
-  pub going-level : lo .1 < hi .1 → (n + 2 ≤ length spots) × Level a b lo hi
+module _ {half : Half} {spots₀ spots : List ℕ} {n : ℕ} {lo hi first last : Cell} {whole : List ℕ}
+    (g : Going half spots₀ spots n lo hi first last whole) where
+  pub going-level : lo .1 < hi .1 → (n + 2 ≤ length spots) × Level lo hi first last
   going-level l =
       let w = g .walking in
       let e : lo .0 + 1 - 1 ≡ lo .0 = omega arith in
       let high : hi .1 ≤ 2 ^ lo .0 = rw e at (halved (hi .1) (lo .0 + 1) (omega arith) (w .inside)) in (
         omega (arith, w .long, w .room),
         record {
-          bottom = g .bottom;
-          same = g .same;
-          deep = g .deep;
-          one = g .one;
+          deep = omega (arith, w .few);
+          high-level = g .high-level;
+          first-level = g .first-level;
+          last-level = g .last-level;
           low = omega arith;
           high = high;
         },
       )
 
   -- with no partition left
-  pub going-none : hi .1 ≤ lo .1 → (n ≡ length (slotsOf half (a .0) (a .1) (b .1))) × (spots ≡ over (slotsOf half (a .0) (a .1) (b .1)) spots₀)
+  pub going-none : hi .1 ≤ lo .1 → (n ≡ length whole) × (spots ≡ over whole spots₀)
   going-none l = walking-end (g .walking) (walk-ends _ _ _ _ _ _ l) (walking-fits (g .walking))
 
-  module _ (spots₁ : List ℕ) (n₁ : ℕ) (l : lo .1 < hi .1)
-      (e : Wrote (visitsAt half lo hi a b) spots n n₁ spots₁) where
-    turned : Walking half spots₀ spots₁ n₁ (lo .0) ((lo .1 + 1) / 2) (hi .1 / 2) (cellIn (lo .0) a .1 / 2) (cellIn (lo .0) b .1 / 2)
-        (slotsOf half (a .0) (a .1) (b .1))
+  module _ (spots₁ : List ℕ) (n₁ : ℕ) (l : lo .1 < hi .1) (e : Wrote (visitsAt half lo hi first last) spots n n₁ spots₁) where
+    turned : Walking half spots₀ spots₁ n₁ (lo .0) ((lo .1 + 1) / 2) (hi .1 / 2) (first .1 / 2) (last .1 / 2) whole
     unfolding visitsAt visits
     turned =
         let z : lo .0 + 1 - 1 ≡ lo .0 = omega arith in
-        rw z at (walking-turn (g .walking) spots₁ n₁ (omega arith) l (rw z (rw (g .one) at e)))
+        rw z at (walking-turn (g .walking) spots₁ n₁ (omega arith) l (rw z (rw (g .high-level) at e)))
 
-    pub going-turn : 0 < lo .0 → Going half a b spots₀ spots₁ n₁ (cellAbove (nextCell lo)) (cellAbove hi)
+    pub going-turn : 0 < lo .0
+        → Going half spots₀ spots₁ n₁ (cellAbove (nextCell lo)) (cellAbove hi) (cellAbove first) (cellAbove last) whole
     going-turn h =
-        let L = lo .0 - 1 in
-        let up : suc L ≡ lo .0 = omega arith in
-        let more : L + 1 ≡ lo .0 = omega arith in
-        let same = g .same in
-        let first : cellUp (a .0) L (a .1) ≡ cellUp (a .0) (lo .0) (a .1) / 2 = up-half (a .0) L (a .1) (omega (arith, g .deep)) ∙ rw up in
-        let last : cellUp (b .0) L (b .1) ≡ cellUp (b .0) (lo .0) (b .1) / 2 = up-half (b .0) L (b .1) (omega (arith, g .deep)) ∙ rw up in
+        let more : lo .0 - 1 + 1 ≡ lo .0 = omega arith in
         record {
-          walking = rw (more, first, last) turned;
-          bottom = g .bottom;
-          same = g .same;
-          deep = omega (arith, g .deep);
-          one = omega (arith, g .one);
+          walking = rw more turned;
+          high-level = rw (g .high-level);
+          first-level = rw (g .first-level);
+          last-level = rw (g .last-level);
         }
 
     -- after level 0
-    pub going-end : lo .0 ≡ 0 → (n₁ ≡ length (slotsOf half (a .0) (a .1) (b .1))) × (spots₁ ≡ over (slotsOf half (a .0) (a .1) (b .1)) spots₀)
+    pub going-end : lo .0 ≡ 0 → (n₁ ≡ length whole) × (spots₁ ≡ over whole spots₀)
     going-end z = walking-end turned (rw z (walk-none _ _ _ _ _)) (walking-fits turned)

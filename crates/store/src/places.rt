@@ -62,22 +62,19 @@ fn visited(
     n
 }
 
-// The visits of one level, of which the partitions from lo on, up to hi, lie in the cells a .. b of a trip.
+// The visits of one level, of which the partitions from lo on, up to hi, lie in a trip's cells; of that level they are first .. last.
 fn visited_at(
     spots: &mut [u32],
     n: usize,
     half: Half,
     lo: Cell,
     hi: Cell,
-    a: Cell,
-    b: Cell,
+    first: Cell,
+    last: Cell,
 ) -> usize
-    requires { ⌜ (n + 2 ≤ length (now spots)) × Level a b lo hi ⌝ }
-    ensures { λ r. ⌜ Wrote (visitsAt half lo hi a b) (now (spots .entry)) n r (now (spots .exit)) ⌝ }
+    requires { ⌜ (n + 2 ≤ length (now spots)) × Level lo hi first last ⌝ }
+    ensures { λ r. ⌜ Wrote (visitsAt half lo hi first last) (now (spots .entry)) n r (now (spots .exit)) ⌝ }
 {
-    let level = lo.level();
-    let first = a.at_level(level);
-    let last = b.at_level(level);
     let k = visited(spots, n, half, lo.parity() == 1, lo, first, last);
     visited(
         spots,
@@ -99,15 +96,19 @@ pub fn slots_of(half: Half, a: Cell, b: Cell, spots: &mut [u32]) -> usize
     let mut n: usize = 0;
     let mut lo = a;
     let mut hi = b.next();
+    let mut first = a;
+    let mut last = b;
     loop {
         if hi.no_later(lo) {
             return n;
         }
-        n = visited_at(spots, n, half, lo, hi, a, b);
+        n = visited_at(spots, n, half, lo, hi, first, last);
         if lo.level() == 0 {
             return n;
         }
         lo = lo.next().above();
         hi = hi.above();
+        first = first.above();
+        last = last.above();
     }
 }

@@ -1,17 +1,19 @@
 -- What is written and the rest of the walk are the whole walk.
-use Prim.Native.Nat.{_≤_, _<_}
 use mathlib.Core.Path.{_∙_}
+use Prim.Native.Nat.{_≤_, _<_}
 use borrow.Author.Tests.{leb-true, leb-false}
+use Rattle.layout.specs.Walk.{slotsOf}
 use Rattle.store.proofs.Walking.{Going, going-start, going-level, going-none, going-turn, going-end, wrote-long}
 use native.Mathlib.Omega.{arith}
 use Rattle.store.proofs.places.slots_of.Statement.{statement}
 use Rattle.store.proofs.places.slots_of.Tie as tie
 
 abbrev Inv-loop : tie.InvT-loop
-Inv-loop half a b spots₀ n₀ lo₀ hi₀ spots n lo hi = Going half a b spots₀ spots n lo hi
+Inv-loop half spots₀ n₀ lo₀ hi₀ first₀ last₀ spots n lo hi first last =
+    Going half spots₀ spots n lo hi first last (slotsOf half (first₀ .0) (first₀ .1) (last₀ .1))
 
 abbrev μ-loop : tie.MeasureT-loop
-μ-loop half a b spots₀ n₀ lo₀ hi₀ spots n lo hi = lo .0
+μ-loop half spots₀ n₀ lo₀ hi₀ first₀ last₀ spots n lo hi first last = lo .0
 
 next-requires : tie.Need-next-requires Inv-loop μ-loop
 next-requires c κs = let p = c .before .pre in rw (p .1) (p .0, omega arith)
@@ -23,7 +25,7 @@ loop-holds c =
     rw (c .next .ensures) (going-start (s .args .half) (s .args .a) (s .args .b) (s .args .spots .now) (p .0) (p .1) (p .3) (p .4))
 
 no-later-requires : tie.Need-no-later-requires Inv-loop μ-loop
-no-later-requires c κs = c .loop .inv .one
+no-later-requires c κs = c .loop .inv .high-level
 
 same-length : tie.Need-same-length Inv-loop μ-loop
 same-length c = c .before .before .loop .inv .walking .long
@@ -61,26 +63,39 @@ next-requires-2 c κs =
     let k = v .before .before .before .before .loop in
     let some : k .lo .1 < k .hi .1 = leb-false _ _ (rw (v .before .before .before .no-later .ensures) at (v .before .before .if1 .left)) in
     let l = going-level (k .inv) some .1 in
-    (omega (arith, l .deep, l .bottom), l .low)
+    (l .deep, l .low)
 
 above-requires : tie.Need-above-requires Inv-loop μ-loop
 above-requires c κs = rw (c .next2 .ensures) (omega (arith, c .before .before .level .ensures))
 
 above-requires-2 : tie.Need-above-requires-2 Inv-loop μ-loop
 above-requires-2 c κs =
-    let v = c .before .before .before .before .before .before in
-    omega (arith, c .before .before .before .level .ensures, v .before .before .before .before .loop .inv .one)
+    let i = c .before .before .before in
+    omega (arith, i .level .ensures, i .before .before .before .before .before .before .before .loop .inv .high-level)
+
+above-requires-3 : tie.Need-above-requires-3 Inv-loop μ-loop
+above-requires-3 c κs =
+    let i = c .before .before .before .before in
+    omega (arith, i .level .ensures, i .before .before .before .before .before .before .before .loop .inv .first-level)
+
+above-requires-4 : tie.Need-above-requires-4 Inv-loop μ-loop
+above-requires-4 c κs =
+    let i = c .before .before .before .before .before in
+    omega (arith, i .level .ensures, i .before .before .before .before .before .before .before .loop .inv .last-level)
 
 loop-less : tie.Need-loop-less Inv-loop μ-loop
-loop-less c = rw (c .before .above .ensures, c .before .before .next2 .ensures) (omega (arith, c .before .before .before .before .level .ensures))
+loop-less c =
+    let u = c .before .before .before in
+    rw (u .above .ensures, u .before .next2 .ensures) (omega (arith, u .before .before .before .level .ensures))
 
 loop-again : tie.Need-loop-again Inv-loop μ-loop
 loop-again c =
-    let v = c .before .before .before .before .before .before .before in
+    let u = c .before .before .before in
+    let v = u .before .before .before .before .before .before in
     let k = v .before .before .before .before .loop in
     let some : k .lo .1 < k .hi .1 = leb-false _ _ (rw (v .before .before .before .no-later .ensures) at (v .before .before .if1 .left)) in
-    rw (c .above2 .ensures, c .before .above .ensures, c .before .before .next2 .ensures)
-    (going-turn (k .inv) _ _ some (v .visited-at .ensures) (omega (arith, c .before .before .before .before .level .ensures)))
+    rw (c .above4 .ensures, c .before .above3 .ensures, c .before .before .above2 .ensures, u .above .ensures, u .before .next2 .ensures)
+    (going-turn (k .inv) _ _ some (v .visited-at .ensures) (omega (arith, u .before .before .before .level .ensures)))
 
 pub slots-of-spec : {M : Type 1} → statement M
 slots-of-spec =
@@ -100,5 +115,7 @@ slots-of-spec =
     next-requires-2
     above-requires
     above-requires-2
+    above-requires-3
+    above-requires-4
     loop-less
     loop-again)
