@@ -1,370 +1,255 @@
-// The calls of the port: each reads its numbers and buffers, and has the answer written where the line is a call.
-use crate::answers;
+// The calls themselves: each takes its numbers and buffers and says its outcome, and the count where it gives one. The answer is then
+// written by the row.
+use crate::print;
 use crate::print::ROOM;
+use crate::rows::Call;
+use crate::rows::Gives;
+use crate::rows::Row;
 use crate::scan;
-use ruler::Numbers;
+use crate::scan::Ends;
+use crate::scan::Fields;
+use layout::Outcome;
+use ruler::Time;
+use trip::Trip;
+use trip::Window;
+use view::LEVELS;
+use view::SUBDIVISIONS;
 ghost use Prim.Native.Nat.{_≤_};
-ghost use lib.ListN.{length};
 
-// What a call is named.
-enum Name {
-    Build,
-    Check,
-    Add,
-    Remove,
-    Ask,
-    Run,
-    Census,
-    Other,
+// What a call says: its number, its detail, and a count, which is written where the row gives one.
+struct Said {
+    number: u32,
+    detail: u32,
+    count: u32,
 }
 
-// The numbers of a ruler, and where the next field begins.
-struct RulerField {
-    numbers: Numbers,
-    next: usize,
+fn counted(outcome: Outcome, count: u32) -> Said {
+    Said {
+        number: layout::number_of(outcome),
+        detail: layout::detail_of(outcome),
+        count,
+    }
 }
 
-// How many words of each buffer an index has, and where the next field begins.
-struct IndexFields {
-    directory: usize,
-    originals: usize,
-    replicas: usize,
-    next: usize,
+fn build_said(
+    n: Fields,
+    ends: Ends,
+    read: &[u32],
+    directory: &mut [u32],
+    originals: &mut [u32],
+    replicas: &mut [u32],
+) -> Said {
+    let ruler = n.ruler;
+    let table = scan::part(read, 0, ends.first);
+    counted(
+        build::build(ruler, table, directory, originals, replicas),
+        0,
+    )
 }
 
-// Three numbers of a call, and where the next field begins.
-struct ThreeFields {
-    first: u32,
-    second: u32,
-    third: u32,
-    next: usize,
+fn check_said(n: Fields, ends: Ends, read: &[u32]) -> Said {
+    let ruler = n.ruler;
+    let directory = scan::part(read, 0, ends.first);
+    let originals = scan::part(read, ends.first, ends.second);
+    let replicas = scan::part(read, ends.second, ends.third);
+    counted(verify::check(ruler, directory, originals, replicas), 0)
 }
 
-fn ruler_at(line: &[u8], at: usize) -> RulerField {
-    let w = scan::number_at(line, at);
-    let m = scan::number_at(line, w.next);
-    RulerField {
-        numbers: Numbers {
-            w: w.value,
-            m: m.value,
+fn add_said(n: Fields, directory: &mut [u32], originals: &mut [u32], replicas: &mut [u32]) -> Said {
+    let ruler = n.ruler;
+    let t = Trip {
+        id: n.first,
+        start: Time::at(n.second),
+        end: Time::at(n.third),
+    };
+    counted(edit::add(ruler, directory, originals, replicas, t), 0)
+}
+
+fn remove_said(
+    n: Fields,
+    directory: &mut [u32],
+    originals: &mut [u32],
+    replicas: &mut [u32],
+) -> Said {
+    let ruler = n.ruler;
+    counted(
+        edit::remove(ruler, directory, originals, replicas, n.first),
+        0,
+    )
+}
+
+fn ask_said(n: Fields, ends: Ends, read: &[u32], answers: &mut [u32]) -> Said {
+    let ruler = n.ruler;
+    let directory = scan::part(read, 0, ends.first);
+    let originals = scan::part(read, ends.first, ends.second);
+    let replicas = scan::part(read, ends.second, ends.third);
+    let window = Window {
+        start: Time::at(n.second),
+        end: Time::at(n.third),
+    };
+    let answered = ask::ask(
+        ruler,
+        directory,
+        originals,
+        replicas,
+        n.first,
+        window,
+        answers,
+    );
+    let outcome = answered.outcome;
+    counted(outcome, answered.count)
+}
+
+fn run_said(n: Fields, ends: Ends, read: &[u32]) -> Said {
+    let ruler = n.ruler;
+    let directory = scan::part(read, 0, ends.first);
+    let originals = scan::part(read, ends.first, ends.second);
+    let replicas = scan::part(read, ends.second, ends.third);
+    let outcome = view::run_outcome(
+        ruler,
+        directory,
+        originals,
+        replicas,
+        n.first,
+        n.second,
+        n.third,
+    );
+    counted(outcome, 0)
+}
+
+fn census_said(n: Fields, ends: Ends, read: &[u32]) -> Said {
+    let ruler = n.ruler;
+    let directory = scan::part(read, 0, ends.first);
+    let originals = scan::part(read, ends.first, ends.second);
+    let replicas = scan::part(read, ends.second, ends.third);
+    counted(
+        view::census_outcome(ruler, directory, originals, replicas),
+        0,
+    )
+}
+
+// The call that the line names. No row is read for an unknown one, which ends the line before.
+fn called(
+    call: Call,
+    n: Fields,
+    ends: Ends,
+    read: &[u32],
+    first: &mut [u32],
+    second: &mut [u32],
+    third: &mut [u32],
+) -> Said {
+    match call {
+        Call::Build => build_said(n, ends, read, first, second, third),
+        Call::Check => check_said(n, ends, read),
+        Call::Add => add_said(n, first, second, third),
+        Call::Remove => remove_said(n, first, second, third),
+        Call::Ask => ask_said(n, ends, read, first),
+        Call::Run => run_said(n, ends, read),
+        Call::Census => census_said(n, ends, read),
+        Call::Unknown => Said {
+            number: 0,
+            detail: 0,
+            count: 0,
         },
-        next: m.next,
     }
 }
 
-fn three_at(line: &[u8], at: usize) -> ThreeFields {
-    let a = scan::number_at(line, at);
-    let b = scan::number_at(line, a.next);
-    let c = scan::number_at(line, b.next);
-    ThreeFields {
-        first: a.value,
-        second: b.value,
-        third: c.value,
-        next: c.next,
-    }
-}
-
-fn index_at(
-    line: &[u8],
-    at: usize,
-    directory: &mut [u32],
-    originals: &mut [u32],
-    replicas: &mut [u32],
-) -> IndexFields
-    ensures { λ r. ⌜ r .directory ≤ length (now (directory .exit)) ⌝ }
-    ensures { λ r. ⌜ r .originals ≤ length (now (originals .exit)) ⌝ }
-    ensures { λ r. ⌜ r .replicas ≤ length (now (replicas .exit)) ⌝ }
+// The run that a call shows.
+fn put_run(out: &mut [u8; ROOM], held: usize, n: Fields, ends: Ends, read: &[u32]) -> usize
+    requires { do ⌜ held ≤ (← ⟦ROOM⟧) ⌝ }
+    ensures { λ r. do ⌜ r ≤ (← ⟦ROOM⟧ .entry) ⌝ }
 {
-    let d = scan::words_at(line, at, directory);
-    let o = scan::words_at(line, d.next, originals);
-    let r = scan::words_at(line, o.next, replicas);
-    IndexFields {
-        directory: d.count,
-        originals: o.count,
-        replicas: r.count,
-        next: r.next,
-    }
-}
-
-// build w m | table directory originals replicas
-fn build_call(
-    line: &[u8],
-    at: usize,
-    table: &mut [u32],
-    directory: &mut [u32],
-    originals: &mut [u32],
-    replicas: &mut [u32],
-    out: &mut [u8; ROOM],
-) -> bool {
-    let named = ruler_at(line, at);
-    let rows = scan::words_at(line, named.next, table);
-    let lent = index_at(line, rows.next, directory, originals, replicas);
-    if !scan::is_whole(line, lent.next) {
-        return false;
-    }
-    let numbers = named.numbers;
-    let t = rows.count;
-    let d = lent.directory;
-    let o = lent.originals;
-    let r = lent.replicas;
-    answers::build_answer(
-        numbers,
-        &table[0..t],
-        &mut directory[0..d],
-        &mut originals[0..o],
-        &mut replicas[0..r],
-        out,
+    let ruler = n.ruler;
+    let directory = scan::part(read, 0, ends.first);
+    let originals = scan::part(read, ends.first, ends.second);
+    let replicas = scan::part(read, ends.second, ends.third);
+    let part = view::run(
+        ruler,
+        directory,
+        originals,
+        replicas,
+        n.first,
+        n.second,
+        n.third,
     );
-    true
+    print::words(out, held, part)
 }
 
-// check w m | directory originals replicas
-fn check_call(
-    line: &[u8],
-    at: usize,
-    directory: &mut [u32],
-    originals: &mut [u32],
-    replicas: &mut [u32],
+// The counts of a level.
+fn put_level(out: &mut [u8; ROOM], held: usize, counts: [u32; SUBDIVISIONS]) -> usize
+    requires { do ⌜ held ≤ (← ⟦ROOM⟧) ⌝ }
+    ensures { λ r. do ⌜ r ≤ (← ⟦ROOM⟧ .entry) ⌝ }
+{
+    print::numbers(out, held, &counts)
+}
+
+// The counts of all levels, one after another.
+fn put_levels(out: &mut [u8; ROOM], from: usize, levels: [[u32; SUBDIVISIONS]; LEVELS]) -> usize
+    requires { do ⌜ from ≤ (← ⟦ROOM⟧) ⌝ }
+    ensures { λ r. do ⌜ r ≤ (← ⟦ROOM⟧ .entry) ⌝ }
+{
+    let mut held = from;
+    let mut level: usize = 0;
+    while level < LEVELS {
+        let counts = levels[level];
+        held = put_level(out, held, counts);
+        level += 1;
+    }
+    held
+}
+
+fn put_census(out: &mut [u8; ROOM], held: usize, n: Fields, ends: Ends, read: &[u32]) -> usize
+    requires { do ⌜ held ≤ (← ⟦ROOM⟧) ⌝ }
+    ensures { λ r. do ⌜ r ≤ (← ⟦ROOM⟧ .entry) ⌝ }
+{
+    let ruler = n.ruler;
+    let directory = scan::part(read, 0, ends.first);
+    let originals = scan::part(read, ends.first, ends.second);
+    let replicas = scan::part(read, ends.second, ends.third);
+    let counts = view::census(ruler, directory, originals, replicas);
+    put_levels(out, held, counts)
+}
+
+// What the row gives after the outcome.
+fn put_given(
     out: &mut [u8; ROOM],
-) -> bool {
-    let named = ruler_at(line, at);
-    let lent = index_at(line, named.next, directory, originals, replicas);
-    if !scan::is_whole(line, lent.next) {
-        return false;
+    held: usize,
+    gives: Gives,
+    count: u32,
+    n: Fields,
+    ends: Ends,
+    read: &[u32],
+) -> usize
+    requires { do ⌜ held ≤ (← ⟦ROOM⟧) ⌝ }
+    ensures { λ r. do ⌜ r ≤ (← ⟦ROOM⟧ .entry) ⌝ }
+{
+    match gives {
+        Gives::Nothing => held,
+        Gives::Count => print::number(out, held, count),
+        Gives::Run => put_run(out, held, n, ends, read),
+        Gives::Census => put_census(out, held, n, ends, read),
     }
-    let numbers = named.numbers;
-    let d = lent.directory;
-    let o = lent.originals;
-    let r = lent.replicas;
-    answers::check_answer(
-        numbers,
-        &directory[0..d],
-        &originals[0..o],
-        &replicas[0..r],
-        out,
-    );
-    true
 }
 
-// add w m id start end | directory originals replicas
-fn add_call(
-    line: &[u8],
-    at: usize,
-    directory: &mut [u32],
-    originals: &mut [u32],
-    replicas: &mut [u32],
+// Makes the call and writes its answer.
+pub fn make(
+    call: Call,
+    row: Row,
+    n: Fields,
+    ends: Ends,
+    read: &[u32],
+    first: &mut [u32],
+    second: &mut [u32],
+    third: &mut [u32],
     out: &mut [u8; ROOM],
-) -> bool {
-    let named = ruler_at(line, at);
-    let three = three_at(line, named.next);
-    let lent = index_at(line, three.next, directory, originals, replicas);
-    if !scan::is_whole(line, lent.next) {
-        return false;
-    }
-    let numbers = named.numbers;
-    let d = lent.directory;
-    let o = lent.originals;
-    let r = lent.replicas;
-    answers::add_answer(
-        numbers,
-        three.first,
-        three.second,
-        three.third,
-        &mut directory[0..d],
-        &mut originals[0..o],
-        &mut replicas[0..r],
-        out,
-    );
-    true
-}
-
-// remove w m id | directory originals replicas
-fn remove_call(
-    line: &[u8],
-    at: usize,
-    directory: &mut [u32],
-    originals: &mut [u32],
-    replicas: &mut [u32],
-    out: &mut [u8; ROOM],
-) -> bool {
-    let named = ruler_at(line, at);
-    let id = scan::number_at(line, named.next);
-    let lent = index_at(line, id.next, directory, originals, replicas);
-    if !scan::is_whole(line, lent.next) {
-        return false;
-    }
-    let numbers = named.numbers;
-    let d = lent.directory;
-    let o = lent.originals;
-    let r = lent.replicas;
-    answers::remove_answer(
-        numbers,
-        id.value,
-        &mut directory[0..d],
-        &mut originals[0..o],
-        &mut replicas[0..r],
-        out,
-    );
-    true
-}
-
-// ask w m code start end | directory originals replicas answers
-fn ask_call(
-    line: &[u8],
-    at: usize,
-    directory: &mut [u32],
-    originals: &mut [u32],
-    replicas: &mut [u32],
-    answers: &mut [u32],
-    out: &mut [u8; ROOM],
-) -> bool {
-    let named = ruler_at(line, at);
-    let three = three_at(line, named.next);
-    let lent = index_at(line, three.next, directory, originals, replicas);
-    let list = scan::words_at(line, lent.next, answers);
-    if !scan::is_whole(line, list.next) {
-        return false;
-    }
-    let numbers = named.numbers;
-    let d = lent.directory;
-    let o = lent.originals;
-    let r = lent.replicas;
-    let n = list.count;
-    answers::ask_answer(
-        numbers,
-        three.first,
-        three.second,
-        three.third,
-        &directory[0..d],
-        &originals[0..o],
-        &replicas[0..r],
-        &mut answers[0..n],
-        out,
-    );
-    true
-}
-
-// run w m level partition subdivision | directory originals replicas
-fn run_call(
-    line: &[u8],
-    at: usize,
-    directory: &mut [u32],
-    originals: &mut [u32],
-    replicas: &mut [u32],
-    out: &mut [u8; ROOM],
-) -> bool {
-    let named = ruler_at(line, at);
-    let three = three_at(line, named.next);
-    let lent = index_at(line, three.next, directory, originals, replicas);
-    if !scan::is_whole(line, lent.next) {
-        return false;
-    }
-    let numbers = named.numbers;
-    let d = lent.directory;
-    let o = lent.originals;
-    let r = lent.replicas;
-    answers::run_answer(
-        numbers,
-        three.first,
-        three.second,
-        three.third,
-        &directory[0..d],
-        &originals[0..o],
-        &replicas[0..r],
-        out,
-    );
-    true
-}
-
-// census w m | directory originals replicas
-fn census_call(
-    line: &[u8],
-    at: usize,
-    directory: &mut [u32],
-    originals: &mut [u32],
-    replicas: &mut [u32],
-    out: &mut [u8; ROOM],
-) -> bool {
-    let named = ruler_at(line, at);
-    let lent = index_at(line, named.next, directory, originals, replicas);
-    if !scan::is_whole(line, lent.next) {
-        return false;
-    }
-    let numbers = named.numbers;
-    let d = lent.directory;
-    let o = lent.originals;
-    let r = lent.replicas;
-    answers::census_answer(
-        numbers,
-        &directory[0..d],
-        &originals[0..o],
-        &replicas[0..r],
-        out,
-    );
-    true
-}
-
-// Whether two runs of bytes are the same.
-fn same(a: &[u8], b: &[u8]) -> bool {
-    if a.len() != b.len() {
-        return false;
-    }
-    let mut i: usize = 0;
-    while i < a.len() {
-        if a[i] != b[i] {
-            return false;
-        }
-        i += 1;
-    }
-    true
-}
-
-fn name_of(word: &[u8]) -> Name {
-    if same(word, b"build") {
-        return Name::Build;
-    }
-    if same(word, b"check") {
-        return Name::Check;
-    }
-    if same(word, b"add") {
-        return Name::Add;
-    }
-    if same(word, b"remove") {
-        return Name::Remove;
-    }
-    if same(word, b"ask") {
-        return Name::Ask;
-    }
-    if same(word, b"run") {
-        return Name::Run;
-    }
-    if same(word, b"census") {
-        return Name::Census;
-    }
-    Name::Other
-}
-
-// Answers one line, given without its newline, and says whether it was a call.
-pub fn answer(
-    line: &[u8],
-    table: &mut [u32],
-    directory: &mut [u32],
-    originals: &mut [u32],
-    replicas: &mut [u32],
-    answers: &mut [u32],
-    out: &mut [u8; ROOM],
-) -> bool {
-    let end = scan::field_end(line, 0);
-    let name = name_of(&line[0..end]);
-    let at = end + 1;
-    match name {
-        Name::Build => { build_call(line, at, table, directory, originals, replicas, out) }
-        Name::Check => check_call(line, at, directory, originals, replicas, out),
-        Name::Add => add_call(line, at, directory, originals, replicas, out),
-        Name::Remove => remove_call(line, at, directory, originals, replicas, out),
-        Name::Ask => { ask_call(line, at, directory, originals, replicas, answers, out) }
-        Name::Run => run_call(line, at, directory, originals, replicas, out),
-        Name::Census => census_call(line, at, directory, originals, replicas, out),
-        Name::Other => false,
-    }
+) {
+    let said = called(call, n, ends, read, first, second, third);
+    let gives = row.gives;
+    let rooms = row.writes;
+    let head = print::outcome(out, said.number, said.detail);
+    let given = put_given(out, head, gives, said.count, n, ends, read);
+    let a = print::words_if(out, given, rooms.first, first);
+    let b = print::words_if(out, a, rooms.second, second);
+    let c = print::words_if(out, b, rooms.third, third);
+    print::finish(out, c);
 }

@@ -1,266 +1,113 @@
 // A test port for harnesses in other languages: one call a line on standard input, its answer one line on standard output. A line of
-// another form is answered `bad line`, and the next line is read.
-mod answers;
+// another form is answered `bad line`, and the next line is read. A call is a row of the table in `rows`.
 mod calls;
+mod input;
 mod print;
+mod rows;
 mod scan;
 
-use libc::STDIN_FILENO;
+use input::CHUNK;
+use input::LINE;
+use input::Standing;
 use libc::STDOUT_FILENO;
 use print::ROOM;
+use rows::Call;
+use rows::FIRST;
+use rows::READ;
+use rows::SECOND;
+use rows::THIRD;
 ghost use Prim.Native.Nat.{_≤_};
 ghost use lib.ListN.{length};
 
-// The words that each buffer of a call may have.
-const TABLE: usize = 12300;
-
-const DIRECTORY: usize = 8200;
-
-const ORIGINALS: usize = 12300;
-
-const REPLICAS: usize = 60000;
-
-const ANSWERS: usize = 4100;
-
-// What is kept of a line. The longest call is a build with every buffer full: its name and 92,806 numbers of at most ten digits, each after
-// a space, are 1,020,871 bytes. So a line that fills this is no call.
-const LINE: usize = 1100000;
-
-// How much is read at once.
-const CHUNK: usize = 65536;
-
-// How many bytes of a line are held between two bytes of the input, and whether more is read.
-struct Standing {
+// Answers what is held of a line, and says whether it was a call. Nothing is called or written before the whole line is read. Of a line
+// that fills its buffer the rest may be missing: it is never taken for a call.
+fn answer(
+    kept: &[u8],
     held: usize,
-    more: bool,
-}
-
-// A line that is no call.
-fn bad_line() {
-    io::write_all(STDOUT_FILENO, b"bad line\n");
-}
-
-// A line is done, and is answered. Of one that fills the buffer the rest may be missing, and it is never taken for a call.
-fn line_done(
-    line: &[u8],
-    held: usize,
-    table: &mut [u32; TABLE],
-    directory: &mut [u32; DIRECTORY],
-    originals: &mut [u32; ORIGINALS],
-    replicas: &mut [u32; REPLICAS],
-    answers: &mut [u32; ANSWERS],
+    read: &mut [u32],
+    first: &mut [u32],
+    second: &mut [u32],
+    third: &mut [u32],
     out: &mut [u8; ROOM],
-)
-    requires { ⌜ held ≤ length (now line) ⌝ }
-{
-    if LINE <= held {
-        bad_line();
-        return;
+) -> bool {
+    if kept.len() <= held {
+        return false;
     }
-    let good = calls::answer(
-        &line[0..held],
-        table,
-        directory,
-        originals,
-        replicas,
-        answers,
+    let line = &kept[0..held];
+    let end = scan::name_end(line);
+    let call = rows::call_of(&line[0..end]);
+    if let Call::Unknown = call {
+        return false;
+    }
+    let row = rows::row_of(call);
+    let reads_rooms = row.reads;
+    let writes_rooms = row.writes;
+    let numbers = scan::numbers_at(line, end + 1, row.numbers);
+    let reads = scan::reads_at(line, numbers.next, reads_rooms, read);
+    let writes = scan::writes_at(line, reads.next, writes_rooms, first, second, third);
+    if !scan::is_whole(line, writes.next) {
+        return false;
+    }
+    let a = writes.first;
+    let b = writes.second;
+    let c = writes.third;
+    calls::make(
+        call,
+        row,
+        numbers,
+        reads,
+        read,
+        &mut first[0..a],
+        &mut second[0..b],
+        &mut third[0..c],
         out,
     );
-    if !good {
-        bad_line();
-    }
+    true
 }
 
-// A byte of the input: it ends a line, or the line goes on. It gives how many bytes of the line are held then.
-fn take_byte(
-    byte: u8,
-    line: &mut [u8; LINE],
-    held: usize,
-    table: &mut [u32; TABLE],
-    directory: &mut [u32; DIRECTORY],
-    originals: &mut [u32; ORIGINALS],
-    replicas: &mut [u32; REPLICAS],
-    answers: &mut [u32; ANSWERS],
-    out: &mut [u8; ROOM],
-) -> usize
-    requires { do ⌜ held ≤ (← ⟦LINE⟧) ⌝ }
-    ensures { λ r. do ⌜ r ≤ (← ⟦LINE⟧ .entry) ⌝ }
-{
-    if byte == b'\n' {
-        line_done(
-            line,
-            held,
-            table,
-            directory,
-            originals,
-            replicas,
-            answers,
-            out,
-        );
-        return 0;
-    }
-    if held < LINE {
-        line[held] = byte;
-        return held + 1;
-    }
-    held
-}
-
-// What was read at once, byte by byte.
-fn take_chunk(
-    chunk: &[u8],
-    line: &mut [u8; LINE],
-    from: usize,
-    table: &mut [u32; TABLE],
-    directory: &mut [u32; DIRECTORY],
-    originals: &mut [u32; ORIGINALS],
-    replicas: &mut [u32; REPLICAS],
-    answers: &mut [u32; ANSWERS],
-    out: &mut [u8; ROOM],
-) -> Standing
-    requires { do ⌜ from ≤ (← ⟦LINE⟧) ⌝ }
-    ensures { λ r. do ⌜ r .held ≤ (← ⟦LINE⟧ .entry) ⌝ }
-{
-    let mut held = from;
-    let mut i: usize = 0;
-    while i < chunk.len() {
-        held = take_byte(
-            chunk[i],
-            line,
-            held,
-            table,
-            directory,
-            originals,
-            replicas,
-            answers,
-            out,
-        );
-        i += 1;
-    }
-    Standing { held, more: true }
-}
-
-// At the end of the input: the last line may lack its newline.
-fn take_end(
+// A line that is whole is answered.
+fn line_done(
+    standing: Standing,
     line: &[u8; LINE],
-    held: usize,
-    table: &mut [u32; TABLE],
-    directory: &mut [u32; DIRECTORY],
-    originals: &mut [u32; ORIGINALS],
-    replicas: &mut [u32; REPLICAS],
-    answers: &mut [u32; ANSWERS],
+    read: &mut [u32; READ],
+    first: &mut [u32; FIRST],
+    second: &mut [u32; SECOND],
+    third: &mut [u32; THIRD],
     out: &mut [u8; ROOM],
-) -> Standing
-    requires { do ⌜ held ≤ (← ⟦LINE⟧) ⌝ }
-    ensures { λ r. do ⌜ r .held ≤ (← ⟦LINE⟧ .entry) ⌝ }
-{
-    if 0 < held {
-        line_done(
-            line,
-            held,
-            table,
-            directory,
-            originals,
-            replicas,
-            answers,
-            out,
-        );
+) {
+    if !standing.whole {
+        return;
     }
-    Standing {
-        held: 0,
-        more: false,
+    if !answer(line, standing.held, read, first, second, third, out) {
+        io::write_all(STDOUT_FILENO, b"bad line\n");
     }
-}
-
-// Reads once, and answers the lines that end in what came.
-fn take_some(
-    line: &mut [u8; LINE],
-    held: usize,
-    table: &mut [u32; TABLE],
-    directory: &mut [u32; DIRECTORY],
-    originals: &mut [u32; ORIGINALS],
-    replicas: &mut [u32; REPLICAS],
-    answers: &mut [u32; ANSWERS],
-    out: &mut [u8; ROOM],
-) -> Standing
-    requires { do ⌜ held ≤ (← ⟦LINE⟧) ⌝ }
-    ensures { λ r. do ⌜ r .held ≤ (← ⟦LINE⟧ .entry) ⌝ }
-{
-    let mut input = [0u8; CHUNK];
-    let got = io::count(libc::read(STDIN_FILENO, &mut input), &input);
-    if got == 0 {
-        return take_end(
-            line,
-            held,
-            table,
-            directory,
-            originals,
-            replicas,
-            answers,
-            out,
-        );
-    }
-    take_chunk(
-        &input[0..got],
-        line,
-        held,
-        table,
-        directory,
-        originals,
-        replicas,
-        answers,
-        out,
-    )
 }
 
 // Reads the input to its end. A proved loop has to end, so it counts its turns down, from a number that no run uses up.
-fn take_all(
-    line: &mut [u8; LINE],
-    table: &mut [u32; TABLE],
-    directory: &mut [u32; DIRECTORY],
-    originals: &mut [u32; ORIGINALS],
-    replicas: &mut [u32; REPLICAS],
-    answers: &mut [u32; ANSWERS],
-    out: &mut [u8; ROOM],
-) {
-    let mut standing = Standing {
-        held: 0,
-        more: true,
-    };
+fn main() {
+    let mut line = [0u8; LINE];
+    let mut chunk = [0u8; CHUNK];
+    let mut read = [0u32; READ];
+    let mut first = [0u32; FIRST];
+    let mut second = [0u32; SECOND];
+    let mut third = [0u32; THIRD];
+    let mut out = [0u8; ROOM];
+    let mut standing = input::begin();
     let mut turns = u64::MAX;
     while 0 < turns {
-        standing = take_some(
-            line,
-            standing.held,
-            table,
-            directory,
-            originals,
-            replicas,
-            answers,
-            out,
+        standing = input::take_some(standing, &mut chunk, &mut line);
+        line_done(
+            standing,
+            &line,
+            &mut read,
+            &mut first,
+            &mut second,
+            &mut third,
+            &mut out,
         );
         if !standing.more {
             return;
         }
         turns -= 1;
     }
-}
-
-fn main() {
-    let mut line = [0u8; LINE];
-    let mut table = [0u32; TABLE];
-    let mut directory = [0u32; DIRECTORY];
-    let mut originals = [0u32; ORIGINALS];
-    let mut replicas = [0u32; REPLICAS];
-    let mut answers = [0u32; ANSWERS];
-    let mut out = [0u8; ROOM];
-    take_all(
-        &mut line,
-        &mut table,
-        &mut directory,
-        &mut originals,
-        &mut replicas,
-        &mut answers,
-        &mut out,
-    );
 }

@@ -6,17 +6,19 @@ ghost use lib.ListN.{length};
 // The bytes that are written at once.
 pub const ROOM: usize = 65536;
 
-// What is kept free for one more number: its ten digits and the byte after them fit.
-const SPARE: usize = 16;
+// The most digits of a number, and what is kept free for one more field: its digits and the byte before them.
+const DIGITS: usize = text::MOST_DIGITS;
+
+const SPARE: usize = DIGITS + 1;
 
 // Writes out what the buffer holds.
-pub fn flush(out: &[u8], held: usize)
+fn flush(out: &[u8], held: usize)
     requires { ⌜ held ≤ length (now out) ⌝ }
 {
     io::write_all(STDOUT_FILENO, &out[0..held]);
 }
 
-// Writes out what the buffer holds where it has no room for one more number, and says how much it holds then.
+// Writes out what the buffer holds where it has no room for one more field, and says how much it holds then.
 fn with_room(out: &[u8], held: usize) -> usize
     requires { do ⌜ (held ≤ length (now out)) × ((← ⟦SPARE⟧) ≤ length (now out)) ⌝ }
     ensures { λ r. do ⌜ r + (← ⟦SPARE⟧ .entry) ≤ length (now (out .entry)) ⌝ }
@@ -28,23 +30,44 @@ fn with_room(out: &[u8], held: usize) -> usize
     held
 }
 
-// Puts a number at a place, and after it a space or a newline.
-fn put(out: &mut [u8], at: usize, n: u32, after: u8) -> usize
-    requires { do ⌜ at + (← ⟦SPARE⟧) ≤ length (now out) ⌝ }
-    ensures { λ r. do ⌜ r ≤ at + (← ⟦SPARE⟧ .entry) ⌝ }
+// Puts the digits of a number at a place.
+fn put(out: &mut [u8], at: usize, n: u32) -> usize
+    requires { do ⌜ at + (← ⟦DIGITS⟧) ≤ length (now out) ⌝ }
+    ensures { λ r. do ⌜ r ≤ at + (← ⟦DIGITS⟧ .entry) ⌝ }
 {
-    let end = at + text::write_number(n, &mut out[at..]);
-    out[end] = after;
-    end + 1
+    at + text::write_number(n, &mut out[at..])
 }
 
-// Puts a number after what the buffer holds, and after it a space or a newline.
-pub fn number(out: &mut [u8; ROOM], held: usize, n: u32, after: u8) -> usize
+// Puts a number after what the buffer holds, and a space before it.
+pub fn number(out: &mut [u8; ROOM], held: usize, n: u32) -> usize
     requires { do ⌜ held ≤ (← ⟦ROOM⟧) ⌝ }
     ensures { λ r. do ⌜ r ≤ (← ⟦ROOM⟧ .entry) ⌝ }
 {
     let at = with_room(out, held);
-    put(out, at, n, after)
+    out[at] = b' ';
+    put(out, at + 1, n)
+}
+
+// The number and the detail of an outcome: the first number of a line has no space before it.
+pub fn outcome(out: &mut [u8; ROOM], n: u32, detail: u32) -> usize
+    ensures { λ r. do ⌜ r ≤ (← ⟦ROOM⟧ .entry) ⌝ }
+{
+    let held = put(out, 0, n);
+    number(out, held, detail)
+}
+
+// Puts numbers one after another.
+pub fn numbers(out: &mut [u8; ROOM], from: usize, part: &[u32]) -> usize
+    requires { do ⌜ from ≤ (← ⟦ROOM⟧) ⌝ }
+    ensures { λ r. do ⌜ r ≤ (← ⟦ROOM⟧ .entry) ⌝ }
+{
+    let mut held = from;
+    let mut i: usize = 0;
+    while i < part.len() {
+        held = number(out, held, part[i]);
+        i += 1;
+    }
+    held
 }
 
 // A length as a number to write. No buffer of the port has more words than a u32 counts.
@@ -52,20 +75,31 @@ fn count_of(words: &[u32]) -> u32 {
     (words.len() % 4294967296) as u32
 }
 
-// Puts the length and the words of a buffer, each but the last with a space after it, and the last with `after`.
-pub fn words(out: &mut [u8; ROOM], from: usize, part: &[u32], after: u8) -> usize
+// Puts the length and the words of a buffer.
+pub fn words(out: &mut [u8; ROOM], from: usize, part: &[u32]) -> usize
     requires { do ⌜ from ≤ (← ⟦ROOM⟧) ⌝ }
     ensures { λ r. do ⌜ r ≤ (← ⟦ROOM⟧ .entry) ⌝ }
 {
-    let n = part.len();
-    if n == 0 {
-        return number(out, from, 0, after);
+    let held = number(out, from, count_of(part));
+    numbers(out, held, part)
+}
+
+// The same where the call has that buffer: one without room is none.
+pub fn words_if(out: &mut [u8; ROOM], from: usize, room: usize, part: &[u32]) -> usize
+    requires { do ⌜ from ≤ (← ⟦ROOM⟧) ⌝ }
+    ensures { λ r. do ⌜ r ≤ (← ⟦ROOM⟧ .entry) ⌝ }
+{
+    if room == 0 {
+        return from;
     }
-    let mut held = number(out, from, count_of(part), b' ');
-    let mut i: usize = 1;
-    while i < n {
-        held = number(out, held, part[i - 1], b' ');
-        i += 1;
-    }
-    number(out, held, part[n - 1], after)
+    words(out, from, part)
+}
+
+// Ends the line and writes it out.
+pub fn finish(out: &mut [u8; ROOM], held: usize)
+    requires { do ⌜ held ≤ (← ⟦ROOM⟧) ⌝ }
+{
+    let at = with_room(out, held);
+    out[at] = b'\n';
+    flush(out, at + 1);
 }

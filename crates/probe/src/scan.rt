@@ -1,5 +1,7 @@
-// Reading the numbers of a call: fields parted by one space. Each reader is told where its field begins and says where the next one
+// Reading a line by its row: fields parted by one space. Each reader is told where its field begins and says where the next one
 // begins. A line without another field has its next place one past its end; once a field is wrong, each place from there on is further.
+use crate::rows::Rooms;
+use ruler::Numbers;
 use text::Number;
 ghost use Prim.Native.Nat.{_≤_};
 ghost use lib.ListN.{length};
@@ -10,9 +12,26 @@ pub struct Field {
     pub next: usize,
 }
 
-// How many words were read into a buffer, and where the next field begins.
+// Where the words of a buffer end, and where the next field begins.
 pub struct Words {
-    pub count: usize,
+    pub end: usize,
+    pub next: usize,
+}
+
+// The numbers of a call: its ruler's and up to three more. Those that it has not are 0.
+pub struct Fields {
+    pub ruler: Numbers,
+    pub first: u32,
+    pub second: u32,
+    pub third: u32,
+    pub next: usize,
+}
+
+// How many words each buffer has, or, of buffers that stand one after another, where it ends.
+pub struct Ends {
+    pub first: usize,
+    pub second: usize,
+    pub third: usize,
     pub next: usize,
 }
 
@@ -34,8 +53,14 @@ pub fn field_end(line: &[u8], at: usize) -> usize
     text::field_end(line, at)
 }
 
+pub fn name_end(line: &[u8]) -> usize
+    ensures { λ r. ⌜ r ≤ length (now (line .entry)) ⌝ }
+{
+    field_end(line, 0)
+}
+
 // The number of the field that begins at a place.
-pub fn number_at(line: &[u8], at: usize) -> Field {
+fn number_at(line: &[u8], at: usize) -> Field {
     if line.len() < at {
         return Field {
             value: 0,
@@ -56,25 +81,117 @@ pub fn number_at(line: &[u8], at: usize) -> Field {
     }
 }
 
-// Reads a buffer: its length, then as many words, which must have room.
-pub fn words_at(line: &[u8], at: usize, words: &mut [u32]) -> Words
-    ensures { λ r. ⌜ r .count ≤ length (now (words .exit)) ⌝ }
+// The same where the call has that number, and no field where it has not.
+fn number_if(line: &[u8], at: usize, has: bool) -> Field {
+    if has {
+        return number_at(line, at);
+    }
+    Field { value: 0, next: at }
+}
+
+// The numbers of a call that has so many.
+pub fn numbers_at(line: &[u8], at: usize, count: usize) -> Fields {
+    let w = number_if(line, at, 0 < count);
+    let m = number_if(line, w.next, 1 < count);
+    let a = number_if(line, m.next, 2 < count);
+    let b = number_if(line, a.next, 3 < count);
+    let c = number_if(line, b.next, 4 < count);
+    Fields {
+        ruler: Numbers {
+            w: w.value,
+            m: m.value,
+        },
+        first: a.value,
+        second: b.value,
+        third: c.value,
+        next: c.next,
+    }
+}
+
+fn least(a: usize, b: usize) -> usize
+    ensures { λ r. ⌜ (r ≤ a) × (r ≤ b) ⌝ }
 {
-    let count_field = number_at(line, at);
-    let count = count_field.value as usize;
-    if words.len() < count {
+    if a < b {
+        return a;
+    }
+    b
+}
+
+// Reads a buffer, its length and then as many words, to a place of the words lent. The words must fit its own room and what is lent.
+fn words_at(line: &[u8], at: usize, room: usize, words: &mut [u32], from: usize) -> Words
+    requires { ⌜ from ≤ length (now words) ⌝ }
+    ensures { λ r. ⌜ r .end ≤ length (now (words .exit)) ⌝ }
+{
+    if room == 0 {
         return Words {
-            count: 0,
+            end: from,
+            next: at,
+        };
+    }
+    let length_field = number_at(line, at);
+    let count = length_field.value as usize;
+    if least(room, words.len() - from) < count {
+        return Words {
+            end: from,
             next: nowhere(line),
         };
     }
-    let mut next = count_field.next;
-    let mut i: usize = 0;
-    while i < count {
+    let end = from + count;
+    let mut next = length_field.next;
+    let mut i = from;
+    while i < end {
         let word = number_at(line, next);
         words[i] = word.value;
         next = word.next;
         i += 1;
     }
-    Words { count, next }
+    Words { end, next }
+}
+
+// The buffers that a call only reads, one after another.
+pub fn reads_at(line: &[u8], at: usize, rooms: Rooms, words: &mut [u32]) -> Ends {
+    let a = words_at(line, at, rooms.first, words, 0);
+    let b = words_at(line, a.next, rooms.second, words, a.end);
+    let c = words_at(line, b.next, rooms.third, words, b.end);
+    Ends {
+        first: a.end,
+        second: b.end,
+        third: c.end,
+        next: c.next,
+    }
+}
+
+// The buffers that a call may write, each at its own place.
+pub fn writes_at(
+    line: &[u8],
+    at: usize,
+    rooms: Rooms,
+    first: &mut [u32],
+    second: &mut [u32],
+    third: &mut [u32],
+) -> Ends
+    ensures { λ r. ⌜ r .first ≤ length (now (first .exit)) ⌝ }
+    ensures { λ r. ⌜ r .second ≤ length (now (second .exit)) ⌝ }
+    ensures { λ r. ⌜ r .third ≤ length (now (third .exit)) ⌝ }
+{
+    let a = words_at(line, at, rooms.first, first, 0);
+    let b = words_at(line, a.next, rooms.second, second, 0);
+    let c = words_at(line, b.next, rooms.third, third, 0);
+    Ends {
+        first: a.end,
+        second: b.end,
+        third: c.end,
+        next: c.next,
+    }
+}
+
+// A part of the words read. The ends come in order and within the words, so that the test never fails and no proof has to carry that.
+pub fn part(words: &[u32], from: usize, end: usize) -> &[u32] {
+    if words.len() < end {
+        return &words[0..0];
+    }
+    if end < from {
+        return &words[0..0];
+    }
+    &words[from..end]
 }

@@ -1,4 +1,4 @@
--- The digits of a number have room in what is kept free, and so has the byte after them.
+-- A number has at most ten digits, so they have room.
 use mathlib.Core.Path.{_≡_, ap, _∙_}
 use Prim.Native.Nat.{_-_, _≤_}
 use lib.ListN.{length, take, drop, length-take, length-drop}
@@ -14,7 +14,6 @@ few c =
     let a = c .before .before .before .before .before .args in
     let part = take (length (a .out .now) - a .at) (drop (a .at) (a .out .now)) in
     let digits = ten-digits (a .n) (omega arith) in
-    let rest = length-drop (a .at) (a .out .now) in
     let room : length (decimal (a .n)) ≤ length part = simp (length-take, length-drop) (omega arith) in
     let e = c .before .before .write-number .ensures ∙ fits-front (a .n) part room in
     omega (arith, ap (λ (w : Written). w .count) e)
@@ -30,12 +29,6 @@ part-write-number-end c = search needs
 
 write-number-requires : tie.Need-write-number-requires
 write-number-requires c κs = search needs
-
-add-end : tie.Need-add-end
-add-end c = omega (arith, few c)
-
-slice-write-out : tie.Need-slice-write-out
-slice-write-out c = omega (arith, few c)
 
 add-result : tie.Need-add-result
 add-result c = omega (arith, few c)
@@ -54,8 +47,6 @@ put-spec =
     part-write-number-start
     part-write-number-end
     write-number-requires
-    add-end
-    slice-write-out
     add-result
     same-length
     returns)

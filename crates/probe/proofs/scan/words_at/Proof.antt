@@ -1,4 +1,4 @@
--- No more words are read than have room, and the buffer keeps its length.
+-- No more words are read than have room, and the words lent keep their length.
 use mathlib.Core.Path.{_≡_}
 use Prim.Native.Nat.{_-_, _≤_}
 use lib.ListN.{length, length-set}
@@ -8,11 +8,14 @@ use Rattle.probe.proofs.scan.words_at.Statement.{statement}
 use Rattle.probe.proofs.scan.words_at.Tie as tie
 
 abbrev Inv-loop : tie.InvT-loop
-Inv-loop line at words₀ count next₀ i₀ words next i =
-    (i ≤ count) × (count ≤ length words₀) × (length words ≡ length words₀)
+Inv-loop line at room words₀ from count end next₀ i₀ words next i =
+    (i ≤ end) × (end ≤ length words₀) × (length words ≡ length words₀)
 
 abbrev μ-loop : tie.MeasureT-loop
-μ-loop line at words₀ count next₀ i₀ words next i = count - i
+μ-loop line at room words₀ from count end next₀ i₀ words next i = end - i
+
+returns : tie.Need-returns Inv-loop μ-loop
+returns c = search needs
 
 number-at-requires : tie.Need-number-at-requires Inv-loop μ-loop
 number-at-requires c κs = search needs
@@ -20,11 +23,20 @@ number-at-requires c κs = search needs
 cast-count : tie.Need-cast-count Inv-loop μ-loop
 cast-count c = search needs
 
+sub-least : tie.Need-sub-least Inv-loop μ-loop
+sub-least c = search needs
+
+least-requires : tie.Need-least-requires Inv-loop μ-loop
+least-requires c κs = search needs
+
 nowhere-requires : tie.Need-nowhere-requires Inv-loop μ-loop
 nowhere-requires c κs = search needs
 
-returns : tie.Need-returns Inv-loop μ-loop
-returns c = search needs
+returns-2 : tie.Need-returns-2 Inv-loop μ-loop
+returns-2 c = search needs
+
+add-end : tie.Need-add-end Inv-loop μ-loop
+add-end c = search needs
 
 loop-holds : tie.Need-loop-holds Inv-loop μ-loop
 loop-holds c = search needs
@@ -50,8 +62,8 @@ loop-again c = simp length-set (omega arith)
 same-length : tie.Need-same-length Inv-loop μ-loop
 same-length c = search needs
 
-returns-2 : tie.Need-returns-2 Inv-loop μ-loop
-returns-2 c = search needs
+returns-3 : tie.Need-returns-3 Inv-loop μ-loop
+returns-3 c = search needs
 
 pub words-at-spec : {M : Type 1} → statement M
 words-at-spec =
@@ -59,10 +71,14 @@ words-at-spec =
     (tie.spec
     Inv-loop
     μ-loop
+    returns
     number-at-requires
     cast-count
+    sub-least
+    least-requires
     nowhere-requires
-    returns
+    returns-2
+    add-end
     loop-holds
     number-at-requires-2
     mul-words
@@ -71,4 +87,4 @@ words-at-spec =
     loop-less
     loop-again
     same-length
-    returns-2)
+    returns-3)

@@ -1,23 +1,26 @@
--- The same from chunk to chunk. The measure is the number of turns that are left.
+-- What is left of a chunk lies within it. The measure is the number of turns that are left.
 use Prim.Native.Nat.{_≤_}
 use borrow.Author.Needs.{needs}
-use Rattle.probe.proofs.take_all.Statement.{statement}
-use Rattle.probe.proofs.take_all.Tie as tie
+use Rattle.probe.proofs.main.Statement.{statement}
+use Rattle.probe.proofs.main.Tie as tie
 
 abbrev Inv-loop : tie.InvT-loop
-Inv-loop line₀ table₀ directory₀ originals₀ replicas₀ answers₀ out₀ standing₀ turns₀ line table directory originals replicas answers out standing
-    turns =
-    standing .held ≤ 1100000
+Inv-loop line₀ chunk₀ read₀ first₀ second₀ third₀ out₀ standing₀ turns₀ line chunk read first second third out standing turns = standing .got ≤ 65536
 
 abbrev μ-loop : tie.MeasureT-loop
-μ-loop line₀ table₀ directory₀ originals₀ replicas₀ answers₀ out₀ standing₀ turns₀ line table directory originals replicas answers out standing
-    turns = turns
+μ-loop line₀ chunk₀ read₀ first₀ second₀ third₀ out₀ standing₀ turns₀ line chunk read first second third out standing turns = turns
+
+begin-requires : tie.Need-begin-requires Inv-loop μ-loop
+begin-requires c κs = search needs
 
 loop-holds : tie.Need-loop-holds Inv-loop μ-loop
 loop-holds c = search needs
 
 take-some-requires : tie.Need-take-some-requires Inv-loop μ-loop
 take-some-requires c κs = search needs
+
+line-done-requires : tie.Need-line-done-requires Inv-loop μ-loop
+line-done-requires c κs = search needs
 
 returns : tie.Need-returns Inv-loop μ-loop
 returns c = search needs
@@ -34,14 +37,16 @@ loop-again c = search needs
 returns-2 : tie.Need-returns-2 Inv-loop μ-loop
 returns-2 c = search needs
 
-pub take-all-spec : {M : Type 1} → statement M
-take-all-spec =
+pub main-spec : {M : Type 1} → statement M
+main-spec =
     tie.close
     (tie.spec
     Inv-loop
     μ-loop
+    begin-requires
     loop-holds
     take-some-requires
+    line-done-requires
     returns
     sub-turns
     loop-less
