@@ -83,7 +83,29 @@ fn line_done(
     }
 }
 
-// Reads the input to its end. A proved loop has to end, so it counts its turns down, from a number that no run uses up.
+// Reads the input to its end. A proved loop has to end, so it counts its turns down, from a number that no run uses up. The loop stands
+// apart from `main`, as a loop over arrays that are lent is proved in a tenth of the time that one over its own arrays takes.
+fn take_all(
+    line: &mut [u8; LINE],
+    chunk: &mut [u8; CHUNK],
+    read: &mut [u32; READ],
+    first: &mut [u32; FIRST],
+    second: &mut [u32; SECOND],
+    third: &mut [u32; THIRD],
+    out: &mut [u8; ROOM],
+) {
+    let mut standing = input::begin();
+    let mut turns = u64::MAX;
+    while 0 < turns {
+        standing = input::take_some(standing, chunk, line);
+        line_done(standing, line, read, first, second, third, out);
+        if !standing.more {
+            return;
+        }
+        turns -= 1;
+    }
+}
+
 fn main() {
     let mut line = [0u8; LINE];
     let mut chunk = [0u8; CHUNK];
@@ -92,22 +114,13 @@ fn main() {
     let mut second = [0u32; SECOND];
     let mut third = [0u32; THIRD];
     let mut out = [0u8; ROOM];
-    let mut standing = input::begin();
-    let mut turns = u64::MAX;
-    while 0 < turns {
-        standing = input::take_some(standing, &mut chunk, &mut line);
-        line_done(
-            standing,
-            &line,
-            &mut read,
-            &mut first,
-            &mut second,
-            &mut third,
-            &mut out,
-        );
-        if !standing.more {
-            return;
-        }
-        turns -= 1;
-    }
+    take_all(
+        &mut line,
+        &mut chunk,
+        &mut read,
+        &mut first,
+        &mut second,
+        &mut third,
+        &mut out,
+    );
 }

@@ -1,8 +1,8 @@
 -- What is left of a chunk lies within it. The measure is the number of turns that are left.
 use Prim.Native.Nat.{_≤_}
 use borrow.Author.Needs.{needs}
-use Rattle.probe.proofs.main.Statement.{statement}
-use Rattle.probe.proofs.main.Tie as tie
+use Rattle.probe.proofs.take_all.Statement.{statement}
+use Rattle.probe.proofs.take_all.Tie as tie
 
 abbrev Inv-loop : tie.InvT-loop
 Inv-loop line₀ chunk₀ read₀ first₀ second₀ third₀ out₀ standing₀ turns₀ line chunk read first second third out standing turns = standing .got ≤ 65536
@@ -37,8 +37,8 @@ loop-again c = search needs
 returns-2 : tie.Need-returns-2 Inv-loop μ-loop
 returns-2 c = search needs
 
-pub main-spec : {M : Type 1} → statement M
-main-spec =
+pub take-all-spec : {M : Type 1} → statement M
+take-all-spec =
     tie.close
     (tie.spec
     Inv-loop
