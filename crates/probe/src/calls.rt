@@ -128,7 +128,7 @@ fn census_said(n: Fields, ends: Ends, read: &[u32]) -> Said {
     )
 }
 
-// The call that the line names. No row is read for an unknown one, which ends the line before.
+// The call of a row. A line that names none is not whole, so the last arm is never reached.
 fn called(
     call: Call,
     n: Fields,
@@ -233,7 +233,6 @@ fn put_given(
 
 // Makes the call and writes its answer.
 pub fn make(
-    call: Call,
     row: Row,
     n: Fields,
     ends: Ends,
@@ -241,15 +240,15 @@ pub fn make(
     first: &mut [u32],
     second: &mut [u32],
     third: &mut [u32],
-    out: &mut [u8; ROOM],
 ) {
-    let said = called(call, n, ends, read, first, second, third);
+    let mut out = [0u8; ROOM];
+    let call = row.call;
     let gives = row.gives;
-    let rooms = row.writes;
-    let head = print::outcome(out, said.number, said.detail);
-    let given = put_given(out, head, gives, said.count, n, ends, read);
-    let a = print::words_if(out, given, rooms.first, first);
-    let b = print::words_if(out, a, rooms.second, second);
-    let c = print::words_if(out, b, rooms.third, third);
-    print::finish(out, c);
+    let said = called(call, n, ends, read, first, second, third);
+    let head = print::outcome(&mut out, said.number, said.detail);
+    let given = put_given(&mut out, head, gives, said.count, n, ends, read);
+    let a = print::words_if(&mut out, given, row.writes.first, first);
+    let b = print::words_if(&mut out, a, row.writes.second, second);
+    let c = print::words_if(&mut out, b, row.writes.third, third);
+    print::finish(&mut out, c);
 }
