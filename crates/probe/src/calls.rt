@@ -33,25 +33,20 @@ fn counted(outcome: Outcome, count: u32) -> Said {
 
 fn build_said(
     n: Fields,
-    ends: Ends,
-    read: &[u32],
+    table: &[u32],
     directory: &mut [u32],
     originals: &mut [u32],
     replicas: &mut [u32],
 ) -> Said {
     let ruler = n.ruler;
-    let table = scan::part(read, 0, ends.first);
     counted(
         build::build(ruler, table, directory, originals, replicas),
         0,
     )
 }
 
-fn check_said(n: Fields, ends: Ends, read: &[u32]) -> Said {
+fn check_said(n: Fields, directory: &[u32], originals: &[u32], replicas: &[u32]) -> Said {
     let ruler = n.ruler;
-    let directory = scan::part(read, 0, ends.first);
-    let originals = scan::part(read, ends.first, ends.second);
-    let replicas = scan::part(read, ends.second, ends.third);
     counted(verify::check(ruler, directory, originals, replicas), 0)
 }
 
@@ -78,11 +73,14 @@ fn remove_said(
     )
 }
 
-fn ask_said(n: Fields, ends: Ends, read: &[u32], answers: &mut [u32]) -> Said {
+fn ask_said(
+    n: Fields,
+    directory: &[u32],
+    originals: &[u32],
+    replicas: &[u32],
+    answers: &mut [u32],
+) -> Said {
     let ruler = n.ruler;
-    let directory = scan::part(read, 0, ends.first);
-    let originals = scan::part(read, ends.first, ends.second);
-    let replicas = scan::part(read, ends.second, ends.third);
     let window = Window {
         start: Time::at(n.second),
         end: Time::at(n.third),
@@ -100,11 +98,8 @@ fn ask_said(n: Fields, ends: Ends, read: &[u32], answers: &mut [u32]) -> Said {
     counted(outcome, answered.count)
 }
 
-fn run_said(n: Fields, ends: Ends, read: &[u32]) -> Said {
+fn run_said(n: Fields, directory: &[u32], originals: &[u32], replicas: &[u32]) -> Said {
     let ruler = n.ruler;
-    let directory = scan::part(read, 0, ends.first);
-    let originals = scan::part(read, ends.first, ends.second);
-    let replicas = scan::part(read, ends.second, ends.third);
     let outcome = view::run_outcome(
         ruler,
         directory,
@@ -117,35 +112,33 @@ fn run_said(n: Fields, ends: Ends, read: &[u32]) -> Said {
     counted(outcome, 0)
 }
 
-fn census_said(n: Fields, ends: Ends, read: &[u32]) -> Said {
+fn census_said(n: Fields, directory: &[u32], originals: &[u32], replicas: &[u32]) -> Said {
     let ruler = n.ruler;
-    let directory = scan::part(read, 0, ends.first);
-    let originals = scan::part(read, ends.first, ends.second);
-    let replicas = scan::part(read, ends.second, ends.third);
     counted(
         view::census_outcome(ruler, directory, originals, replicas),
         0,
     )
 }
 
-// The call that the line names. No row is read for an unknown one, which ends the line before.
+// The call of a row. A line that names none is not whole, so the last arm is never reached.
 fn called(
     call: Call,
     n: Fields,
-    ends: Ends,
-    read: &[u32],
+    a: &[u32],
+    b: &[u32],
+    c: &[u32],
     first: &mut [u32],
     second: &mut [u32],
     third: &mut [u32],
 ) -> Said {
     match call {
-        Call::Build => build_said(n, ends, read, first, second, third),
-        Call::Check => check_said(n, ends, read),
+        Call::Build => build_said(n, a, first, second, third),
+        Call::Check => check_said(n, a, b, c),
         Call::Add => add_said(n, first, second, third),
         Call::Remove => remove_said(n, first, second, third),
-        Call::Ask => ask_said(n, ends, read, first),
-        Call::Run => run_said(n, ends, read),
-        Call::Census => census_said(n, ends, read),
+        Call::Ask => ask_said(n, a, b, c, first),
+        Call::Run => run_said(n, a, b, c),
+        Call::Census => census_said(n, a, b, c),
         Call::Unknown => Said {
             number: 0,
             detail: 0,
@@ -155,14 +148,18 @@ fn called(
 }
 
 // The run that a call shows.
-fn put_run(out: &mut [u8; ROOM], held: usize, n: Fields, ends: Ends, read: &[u32]) -> usize
+fn put_run<'a>(
+    out: &mut [u8; ROOM],
+    held: usize,
+    n: Fields,
+    directory: &[u32],
+    originals: &'a [u32],
+    replicas: &'a [u32],
+) -> usize
     requires { do ⌜ held ≤ (← ⟦ROOM⟧) ⌝ }
     ensures { λ r. do ⌜ r ≤ (← ⟦ROOM⟧ .entry) ⌝ }
 {
     let ruler = n.ruler;
-    let directory = scan::part(read, 0, ends.first);
-    let originals = scan::part(read, ends.first, ends.second);
-    let replicas = scan::part(read, ends.second, ends.third);
     let part = view::run(
         ruler,
         directory,
@@ -198,42 +195,45 @@ fn put_levels(out: &mut [u8; ROOM], from: usize, levels: [[u32; SUBDIVISIONS]; L
     held
 }
 
-fn put_census(out: &mut [u8; ROOM], held: usize, n: Fields, ends: Ends, read: &[u32]) -> usize
-    requires { do ⌜ held ≤ (← ⟦ROOM⟧) ⌝ }
-    ensures { λ r. do ⌜ r ≤ (← ⟦ROOM⟧ .entry) ⌝ }
-{
-    let ruler = n.ruler;
-    let directory = scan::part(read, 0, ends.first);
-    let originals = scan::part(read, ends.first, ends.second);
-    let replicas = scan::part(read, ends.second, ends.third);
-    let counts = view::census(ruler, directory, originals, replicas);
-    put_levels(out, held, counts)
-}
-
-// What the row gives after the outcome.
-fn put_given(
+fn put_census(
     out: &mut [u8; ROOM],
     held: usize,
-    gives: Gives,
-    count: u32,
     n: Fields,
-    ends: Ends,
-    read: &[u32],
+    directory: &[u32],
+    originals: &[u32],
+    replicas: &[u32],
 ) -> usize
     requires { do ⌜ held ≤ (← ⟦ROOM⟧) ⌝ }
     ensures { λ r. do ⌜ r ≤ (← ⟦ROOM⟧ .entry) ⌝ }
 {
+    let ruler = n.ruler;
+    let counts = view::census(ruler, directory, originals, replicas);
+    put_levels(out, held, counts)
+}
+
+// The outcome, and what the row gives after it.
+fn put_said<'a>(
+    out: &mut [u8; ROOM],
+    said: Said,
+    gives: Gives,
+    n: Fields,
+    a: &[u32],
+    b: &'a [u32],
+    c: &'a [u32],
+) -> usize
+    ensures { λ r. do ⌜ r ≤ (← ⟦ROOM⟧ .entry) ⌝ }
+{
+    let held = print::outcome(out, said.number, said.detail);
     match gives {
         Gives::Nothing => held,
-        Gives::Count => print::number(out, held, count),
-        Gives::Run => put_run(out, held, n, ends, read),
-        Gives::Census => put_census(out, held, n, ends, read),
+        Gives::Count => print::number(out, held, said.count),
+        Gives::Run => put_run(out, held, n, a, b, c),
+        Gives::Census => put_census(out, held, n, a, b, c),
     }
 }
 
-// Makes the call and writes its answer.
+// Makes the call and writes its answer. The buffers that it only reads are `a`, `b` and `c`, in the order of the line.
 pub fn make(
-    call: Call,
     row: Row,
     n: Fields,
     ends: Ends,
@@ -241,15 +241,17 @@ pub fn make(
     first: &mut [u32],
     second: &mut [u32],
     third: &mut [u32],
-    out: &mut [u8; ROOM],
 ) {
-    let said = called(call, n, ends, read, first, second, third);
+    let mut out = [0u8; ROOM];
+    let call = row.call;
     let gives = row.gives;
-    let rooms = row.writes;
-    let head = print::outcome(out, said.number, said.detail);
-    let given = put_given(out, head, gives, said.count, n, ends, read);
-    let a = print::words_if(out, given, rooms.first, first);
-    let b = print::words_if(out, a, rooms.second, second);
-    let c = print::words_if(out, b, rooms.third, third);
-    print::finish(out, c);
+    let a = scan::part(read, 0, ends.first);
+    let b = scan::part(read, ends.first, ends.second);
+    let c = scan::part(read, ends.second, ends.third);
+    let said = called(call, n, a, b, c, first, second, third);
+    let head = put_said(&mut out, said, gives, n, a, b, c);
+    let one = print::words_if(&mut out, head, row.writes.first, first);
+    let two = print::words_if(&mut out, one, row.writes.second, second);
+    let three = print::words_if(&mut out, two, row.writes.third, third);
+    print::finish(&mut out, three);
 }

@@ -94,7 +94,7 @@ fn take_end(held: usize) -> Standing
 }
 
 // Takes up to a newline from the chunk, which is read anew where nothing of it is left.
-pub fn take_some(from: Standing, chunk: &mut [u8; CHUNK], line: &mut [u8; LINE]) -> Standing
+fn take_some(from: Standing, chunk: &mut [u8; CHUNK], line: &mut [u8; LINE]) -> Standing
     requires { do ⌜ from .got ≤ (← ⟦CHUNK⟧) ⌝ }
     ensures { λ r. do ⌜ r .got ≤ (← ⟦CHUNK⟧ .entry) ⌝ }
 {
@@ -107,4 +107,33 @@ pub fn take_some(from: Standing, chunk: &mut [u8; CHUNK], line: &mut [u8; LINE])
         return take_end(held);
     }
     take_line(chunk, 0, got, line, held)
+}
+
+// Reads on to the end of a line. Where none is left it is not whole. A proved loop has to end, so it counts its turns down, from a number
+// that no run uses up.
+pub fn next_line(from: Standing, chunk: &mut [u8; CHUNK], line: &mut [u8; LINE]) -> Standing
+    requires { do ⌜ from .got ≤ (← ⟦CHUNK⟧) ⌝ }
+    ensures { λ r. do ⌜ r .got ≤ (← ⟦CHUNK⟧ .entry) ⌝ }
+{
+    let mut standing = from;
+    let mut turns = u64::MAX;
+    while 0 < turns {
+        if !standing.more {
+            return take_end(0);
+        }
+        standing = take_some(standing, chunk, line);
+        if standing.whole {
+            return standing;
+        }
+        turns -= 1;
+    }
+    take_end(0)
+}
+
+// The line that is held. Of one that fills its buffer the rest may be missing, so it is taken for an empty one: neither is a call.
+pub fn line_of(line: &[u8], held: usize) -> &[u8] {
+    if line.len() <= held {
+        return &line[0..0];
+    }
+    &line[0..held]
 }

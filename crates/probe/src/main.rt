@@ -8,10 +8,7 @@ mod scan;
 
 use input::CHUNK;
 use input::LINE;
-use input::Standing;
 use libc::STDOUT_FILENO;
-use print::ROOM;
-use rows::Call;
 use rows::FIRST;
 use rows::READ;
 use rows::SECOND;
@@ -19,8 +16,7 @@ use rows::THIRD;
 ghost use Prim.Native.Nat.{_≤_};
 ghost use lib.ListN.{length};
 
-// Answers what is held of a line, and says whether it was a call. Nothing is called or written before the whole line is read. Of a line
-// that fills its buffer the rest may be missing: it is never taken for a call.
+// Answers what is held of a line, and says whether it was a call. Nothing is called or written before the whole line is read.
 fn answer(
     kept: &[u8],
     held: usize,
@@ -28,23 +24,12 @@ fn answer(
     first: &mut [u32],
     second: &mut [u32],
     third: &mut [u32],
-    out: &mut [u8; ROOM],
 ) -> bool {
-    if kept.len() <= held {
-        return false;
-    }
-    let line = &kept[0..held];
-    let end = scan::name_end(line);
-    let call = rows::call_of(&line[0..end]);
-    if let Call::Unknown = call {
-        return false;
-    }
-    let row = rows::row_of(call);
-    let reads_rooms = row.reads;
-    let writes_rooms = row.writes;
-    let numbers = scan::numbers_at(line, end + 1, row.numbers);
-    let reads = scan::reads_at(line, numbers.next, reads_rooms, read);
-    let writes = scan::writes_at(line, reads.next, writes_rooms, first, second, third);
+    let line = input::line_of(kept, held);
+    let row = rows::row_named(line);
+    let numbers = scan::numbers_at(line, row.at, row.numbers);
+    let reads = scan::reads_at(line, numbers.next, row.reads, read);
+    let writes = scan::writes_at(line, reads.next, row.writes, first, second, third);
     if !scan::is_whole(line, writes.next) {
         return false;
     }
@@ -52,7 +37,6 @@ fn answer(
     let b = writes.second;
     let c = writes.third;
     calls::make(
-        call,
         row,
         numbers,
         reads,
@@ -60,25 +44,13 @@ fn answer(
         &mut first[0..a],
         &mut second[0..b],
         &mut third[0..c],
-        out,
     );
     true
 }
 
-// A line that is whole is answered.
-fn line_done(
-    standing: Standing,
-    line: &[u8; LINE],
-    read: &mut [u32; READ],
-    first: &mut [u32; FIRST],
-    second: &mut [u32; SECOND],
-    third: &mut [u32; THIRD],
-    out: &mut [u8; ROOM],
-) {
-    if !standing.whole {
-        return;
-    }
-    if !answer(line, standing.held, read, first, second, third, out) {
+// What is written for a line that is no call.
+fn bad_unless(good: bool) {
+    if !good {
         io::write_all(STDOUT_FILENO, b"bad line\n");
     }
 }
@@ -92,16 +64,16 @@ fn take_all(
     first: &mut [u32; FIRST],
     second: &mut [u32; SECOND],
     third: &mut [u32; THIRD],
-    out: &mut [u8; ROOM],
 ) {
     let mut standing = input::begin();
     let mut turns = u64::MAX;
     while 0 < turns {
-        standing = input::take_some(standing, chunk, line);
-        line_done(standing, line, read, first, second, third, out);
-        if !standing.more {
+        standing = input::next_line(standing, chunk, line);
+        if !standing.whole {
             return;
         }
+        let good = answer(line, standing.held, read, first, second, third);
+        bad_unless(good);
         turns -= 1;
     }
 }
@@ -113,7 +85,6 @@ fn main() {
     let mut first = [0u32; FIRST];
     let mut second = [0u32; SECOND];
     let mut third = [0u32; THIRD];
-    let mut out = [0u8; ROOM];
     take_all(
         &mut line,
         &mut chunk,
@@ -121,6 +92,5 @@ fn main() {
         &mut first,
         &mut second,
         &mut third,
-        &mut out,
     );
 }

@@ -3,8 +3,8 @@ use libc::STDOUT_FILENO;
 ghost use Prim.Native.Nat.{_+_, _≤_};
 ghost use lib.ListN.{length};
 
-// The bytes that are written at once.
-pub const ROOM: usize = 65536;
+// The bytes that are written at once. Each answer has such a buffer of its own, so that no function but these carries it.
+pub const ROOM: usize = 4096;
 
 // The most digits of a number, and what is kept free for one more field: its digits and the byte before them.
 const DIGITS: usize = text::MOST_DIGITS;

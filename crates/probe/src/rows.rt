@@ -1,7 +1,6 @@
 // The table of the calls. A line is the call's name, its numbers, the buffers that it only reads and those that it may write; its answer is
 // the number, the detail, what else it gives and the buffers that it may write. A row says how many numbers and which buffers; `calls` has what is called.
-ghost use Prim.Native.Nat.{_≤_};
-ghost use lib.ListN.{length};
+use crate::scan;
 
 // The words that each buffer of a call may have.
 const TABLE: usize = 12300;
@@ -50,8 +49,11 @@ pub struct Rooms {
     pub third: usize,
 }
 
-// How many numbers a call has, those of its ruler among them, which buffers it only reads, which it may write, and what it gives.
+// What is called, where its numbers begin in the line, how many they are, its ruler's among them, which buffers it only reads, which it may
+// write, and what it gives.
 pub struct Row {
+    pub call: Call,
+    pub at: usize,
     pub numbers: usize,
     pub reads: Rooms,
     pub writes: Rooms,
@@ -78,7 +80,7 @@ fn place_of(word: &[u8], names: &[u8]) -> usize {
     let mut place: usize = 0;
     let mut from: usize = 0;
     while from < names.len() {
-        let end = crate::scan::field_end(names, from);
+        let end = scan::field_end(names, from);
         if same(word, &names[from..end]) {
             return place;
         }
@@ -86,20 +88,6 @@ fn place_of(word: &[u8], names: &[u8]) -> usize {
         place += 1;
     }
     place
-}
-
-// The call of a name: the arms are in the order of the list.
-pub fn call_of(word: &[u8]) -> Call {
-    match place_of(word, b"build check add remove ask run census") {
-        0 => Call::Build,
-        1 => Call::Check,
-        2 => Call::Add,
-        3 => Call::Remove,
-        4 => Call::Ask,
-        5 => Call::Run,
-        6 => Call::Census,
-        _ => Call::Unknown,
-    }
 }
 
 fn lent(first: usize, second: usize, third: usize) -> Rooms {
@@ -110,8 +98,10 @@ fn lent(first: usize, second: usize, third: usize) -> Rooms {
     }
 }
 
-fn taking(numbers: usize, reads: Rooms, writes: Rooms, gives: Gives) -> Row {
+fn row_of(call: Call, at: usize, numbers: usize, reads: Rooms, writes: Rooms, gives: Gives) -> Row {
     Row {
+        call,
+        at,
         numbers,
         reads,
         writes,
@@ -119,19 +109,27 @@ fn taking(numbers: usize, reads: Rooms, writes: Rooms, gives: Gives) -> Row {
     }
 }
 
-pub fn row_of(call: Call) -> Row {
+// The table: the row of each name, in the order of the list.
+fn row_at(place: usize, at: usize, nowhere: usize) -> Row {
     let none = lent(0, 0, 0);
     let table = lent(TABLE, 0, 0);
     let index = lent(DIRECTORY, ORIGINALS, REPLICAS);
     let answers = lent(ANSWERS, 0, 0);
-    match call {
-        Call::Build => taking(2, table, index, Gives::Nothing),
-        Call::Check => taking(2, index, none, Gives::Nothing),
-        Call::Add => taking(5, none, index, Gives::Nothing),
-        Call::Remove => taking(3, none, index, Gives::Nothing),
-        Call::Ask => taking(5, index, answers, Gives::Count),
-        Call::Run => taking(5, index, none, Gives::Run),
-        Call::Census => taking(2, index, none, Gives::Census),
-        Call::Unknown => taking(0, none, none, Gives::Nothing),
+    match place {
+        0 => row_of(Call::Build, at, 2, table, index, Gives::Nothing),
+        1 => row_of(Call::Check, at, 2, index, none, Gives::Nothing),
+        2 => row_of(Call::Add, at, 5, none, index, Gives::Nothing),
+        3 => row_of(Call::Remove, at, 3, none, index, Gives::Nothing),
+        4 => row_of(Call::Ask, at, 5, index, answers, Gives::Count),
+        5 => row_of(Call::Run, at, 5, index, none, Gives::Run),
+        6 => row_of(Call::Census, at, 2, index, none, Gives::Census),
+        _ => row_of(Call::Unknown, nowhere, 0, none, none, Gives::Nothing),
     }
+}
+
+// The row that a line names. Where it names none, nothing of the line is read on, so that it is not whole.
+pub fn row_named(line: &[u8]) -> Row {
+    let end = scan::field_end(line, 0);
+    let place = place_of(&line[0..end], b"build check add remove ask run census");
+    row_at(place, end + 1, scan::nowhere(line))
 }

@@ -36,7 +36,7 @@ pub struct Ends {
 }
 
 // The place after a field that is wrong or missing: no field begins there, and it is not where a whole line ends.
-fn nowhere(line: &[u8]) -> usize {
+pub fn nowhere(line: &[u8]) -> usize {
     line.len() + 2
 }
 
@@ -51,12 +51,6 @@ pub fn field_end(line: &[u8], at: usize) -> usize
     ensures { λ r. ⌜ (at ≤ r) × (r ≤ length (now (line .entry))) ⌝ }
 {
     text::field_end(line, at)
-}
-
-pub fn name_end(line: &[u8]) -> usize
-    ensures { λ r. ⌜ r ≤ length (now (line .entry)) ⌝ }
-{
-    field_end(line, 0)
 }
 
 // The number of the field that begins at a place.

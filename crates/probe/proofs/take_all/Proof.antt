@@ -5,10 +5,10 @@ use Rattle.probe.proofs.take_all.Statement.{statement}
 use Rattle.probe.proofs.take_all.Tie as tie
 
 abbrev Inv-loop : tie.InvT-loop
-Inv-loop line₀ chunk₀ read₀ first₀ second₀ third₀ out₀ standing₀ turns₀ line chunk read first second third out standing turns = standing .got ≤ 65536
+Inv-loop line₀ chunk₀ read₀ first₀ second₀ third₀ standing₀ turns₀ line chunk read first second third standing turns = standing .got ≤ 65536
 
 abbrev μ-loop : tie.MeasureT-loop
-μ-loop line₀ chunk₀ read₀ first₀ second₀ third₀ out₀ standing₀ turns₀ line chunk read first second third out standing turns = turns
+μ-loop line₀ chunk₀ read₀ first₀ second₀ third₀ standing₀ turns₀ line chunk read first second third standing turns = turns
 
 begin-requires : tie.Need-begin-requires Inv-loop μ-loop
 begin-requires c κs = search needs
@@ -16,14 +16,17 @@ begin-requires c κs = search needs
 loop-holds : tie.Need-loop-holds Inv-loop μ-loop
 loop-holds c = search needs
 
-take-some-requires : tie.Need-take-some-requires Inv-loop μ-loop
-take-some-requires c κs = search needs
-
-line-done-requires : tie.Need-line-done-requires Inv-loop μ-loop
-line-done-requires c κs = search needs
+next-line-requires : tie.Need-next-line-requires Inv-loop μ-loop
+next-line-requires c κs = search needs
 
 returns : tie.Need-returns Inv-loop μ-loop
 returns c = search needs
+
+answer-requires : tie.Need-answer-requires Inv-loop μ-loop
+answer-requires c κs = search needs
+
+bad-unless-requires : tie.Need-bad-unless-requires Inv-loop μ-loop
+bad-unless-requires c κs = search needs
 
 sub-turns : tie.Need-sub-turns Inv-loop μ-loop
 sub-turns c = search needs
@@ -45,9 +48,10 @@ take-all-spec =
     μ-loop
     begin-requires
     loop-holds
-    take-some-requires
-    line-done-requires
+    next-line-requires
     returns
+    answer-requires
+    bad-unless-requires
     sub-turns
     loop-less
     loop-again

@@ -5,7 +5,7 @@ use Rattle.probe.proofs.calls.put_levels.Statement.{statement}
 use Rattle.probe.proofs.calls.put_levels.Tie as tie
 
 abbrev Inv-loop : tie.InvT-loop
-Inv-loop out₀ from levels held₀ level₀ out held level = (level ≤ 11) × (held ≤ 65536)
+Inv-loop out₀ from levels held₀ level₀ out held level = (level ≤ 11) × (held ≤ 4096)
 
 abbrev μ-loop : tie.MeasureT-loop
 μ-loop out₀ from levels held₀ level₀ out held level = 11 - level

@@ -6,7 +6,7 @@ use Rattle.probe.proofs.print.numbers.Statement.{statement}
 use Rattle.probe.proofs.print.numbers.Tie as tie
 
 abbrev Inv-loop : tie.InvT-loop
-Inv-loop out₀ from part held₀ i₀ out held i = (i ≤ length part) × (held ≤ 65536)
+Inv-loop out₀ from part held₀ i₀ out held i = (i ≤ length part) × (held ≤ 4096)
 
 abbrev μ-loop : tie.MeasureT-loop
 μ-loop out₀ from part held₀ i₀ out held i = length part - i
