@@ -88,14 +88,14 @@ pub fn remove_answer(
     put_index(out, outcome, directory, originals, replicas);
 }
 
-pub fn ask_answer(
+pub fn ask_answer<'a>(
     numbers: Numbers,
     code: u32,
     start: u32,
     end: u32,
     directory: &[u32],
-    originals: &[u32],
-    replicas: &[u32],
+    originals: &'a [u32],
+    replicas: &'a [u32],
     answers: &mut [u32],
     out: &mut [u8; ROOM],
 ) {
