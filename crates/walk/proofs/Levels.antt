@@ -3,14 +3,11 @@ use mathlib.Core.Path.{_≡_, refl, sym, ap, ap₂, subst, _∙_, fun-ext}
 use mathlib.Core.Bool.{Bool, true, false, _&&_}
 use mathlib.Core.List.{List, [], _++_, List·Memᴰ as Mem}
 use Prim.Native.Nat.{ℕ, _+_, _-_, _*_, _^_, _≤_, _<_}
-use native.Mathlib.Numerals.{add-one}
 use native.Mathlib.Omega.{arith}
 use lib.Dec.{T, ltb}
-use lib.ListN.{length, length-append}
 use borrow.Author.Tests.{ltb-true, ltb-false}
 use Rattle.lists.specs.Lists.{keep, joined}
 use Rattle.lists.proofs.Tests.{to-T}
-use Rattle.lists.proofs.Joined.{joined-add}
 use Rattle.ruler.specs.Ruler.{Scale, cellUp}
 use Rattle.trip.specs.declared.Trip.{Trip}
 use Rattle.layout.specs.declared.Half.{Half}
@@ -26,7 +23,7 @@ use Rattle.plan.proofs.Looked.{slotsFrom, width, lookedAt, levelWalk, walk}
 use Rattle.plan.proofs.Ranges.{few-slots, cells-ordered, high-in}
 use Rattle.plan.proofs.Sure.{three-pieces, first-sure, between-sure, last-sure, one-sure, replicas-sure}
 use Rattle.walk.specs.Part.{stretchMatches, There}
-use Rattle.walk.specs.Levels.{levelMatches, LevelsThere, levelUp, walkMatches}
+use Rattle.walk.specs.Levels.{levelMatches, LevelsThere, walkMatches}
 use Rattle.walk.proofs.Slots.{SlotsThere, AllThere, fourMatches}
 use Rattle.walk.proofs.Looks.{none-kept, level-looks, level-there}
 use Rattle.walk.proofs.Laid.{stretch-is, stretch-there, partition-there}

@@ -5,7 +5,7 @@ use mathlib.Core.List.{List, [], _++_, append-nil, append-assoc}
 use Prim.Native.Nat.{ℕ, zero, suc, _+_, _-_, _*_, _≤_, _<_}
 use native.Mathlib.Omega.{arith}
 use lib.Dec.{eqb}
-use lib.ListN.{length, getD, take, drop}
+use lib.ListN.{length, getD}
 use borrow.Author.Tests.{eqb-true}
 use Rattle.lists.specs.Lists.{keep, joined, upTo}
 use Rattle.lists.proofs.Kept.{keep-append}
@@ -21,7 +21,6 @@ use Rattle.plan.specs.Bounds.{inside}
 use Rattle.plan.specs.Plan.{keepUnless, stretch}
 use Rattle.plan.specs.Looks.{frontEnd, frontOf, backOf, looks, originalLooks, lookAt}
 use Rattle.walk.specs.Part.{Listed, stretchWords, stretchMatches, There}
-use Rattle.walk.specs.Cut.{Rises}
 use Rattle.walk.specs.Levels.{lookWords, partOf, LookThere, lookMatches, levelLook, levelMatches, LevelThere, looksFrom, looksTo}
 use Rattle.walk.proofs.Slots.{InTurn, inSlot, aftSlot, afterIn, SlotsThere, AllThere, fourMatches}
 use Rattle.walk.proofs.Rows.{row-room, row-fits}
@@ -36,9 +35,10 @@ unfolding partOf lookMatches lookWords stretchMatches keepUnless
 part-is b d o r l true e = rw e refl
 part-is b d o r l false e = rw e (cut-matches (l .order) b _)
 
-pub part-matches : (b : Bounds) (d o r : List ℕ) (l : Look) {part : List ℕ} → part ≡ partOf b d o r l
-    → keepUnless (l .stretch .sure) (inside b) (rows part) ≡ lookMatches (inside b) d o r l
-part-matches b d o r l e = rw e (part-is b d o r l (l .stretch .sure) refl)
+-- for look k of a level, and the part that the code has made for it
+pub look-seen : (b : Bounds) (d o r : List ℕ) (s : Stretches) (k : ℕ) {l : Look} {part : List ℕ} → l ≡ lookAt s k → part ≡ partOf b d o r l
+    → keepUnless (l .stretch .sure) (inside b) (rows part) ≡ levelLook (inside b) d o r s k
+look-seen b d o r s k {l} e f = rw f (part-is b d o r l (l .stretch .sure) refl) ∙ ap (lookMatches (inside b) d o r) e
 
 pub none-kept : (sure : Bool) (t : Trip → Bool) → keepUnless sure t [] ≡ []
 unfolding keepUnless keep
@@ -79,18 +79,28 @@ module _ {h : Half} {d l : List ℕ} {s : Stretch} (w : SlotsThere h d l s) wher
       ap (keepUnless (s .sure) t) (rows-apart l a b c (w .in-there .rises) (w .aft-there .rises) (w .whole .room)) ∙ unless-append (s .sure) t _ _
 
   -- where all is known to match the front is all of it, and elsewhere the "in" slot
-  two-looks : (t : Trip → Bool) (c : Bool) → s .sure ≡ c → stretchMatches t d l s ≡ stretchMatches t d l (frontOf s) ++ stretchMatches t d l (backOf s)
-  two-looks t true e = rw (front-all s e, bare-none t d l (stretch (s .to) (s .to) (s .sure)) refl, append-nil) refl
-  two-looks t false e = rw (front-in s e) (two-slots t)
+  looks-meet : (t : Trip → Bool) (c : Bool) → s .sure ≡ c
+      → stretchMatches t d l s ≡ stretchMatches t d l (frontOf s) ++ stretchMatches t d l (backOf s)
+  looks-meet t true e = rw (front-all s e, bare-none t d l (stretch (s .to) (s .to) (s .sure)) refl, append-nil) refl
+  looks-meet t false e = rw (front-in s e) (two-slots t)
 
-  front-there : (c : Bool) → s .sure ≡ c → There d l (frontOf s)
-  front-there true e = rw (front-all s e) (w .whole)
-  front-there false e = rw (front-in s e) (w .in-there)
+  front-at : (c : Bool) → s .sure ≡ c → There d l (frontOf s)
+  front-at true e = rw (front-all s e) (w .whole)
+  front-at false e = rw (front-in s e) (w .in-there)
 
-  back-there : (c : Bool) → s .sure ≡ c → There d l (backOf s)
-  back-there true e =
+  back-at : (c : Bool) → s .sure ≡ c → There d l (backOf s)
+  back-at true e =
       rw (front-all s e) (record { from-in = w .whole .to-in; to-in = w .whole .to-in; rises = omega arith; room = w .whole .room })
-  back-there false e = rw (front-in s e) (w .aft-there)
+  back-at false e = rw (front-in s e) (w .aft-there)
+
+  two-looks : (t : Trip → Bool) → stretchMatches t d l s ≡ stretchMatches t d l (frontOf s) ++ stretchMatches t d l (backOf s)
+  two-looks t = looks-meet t (s .sure) refl
+
+  front-there : There d l (frontOf s)
+  front-there = front-at (s .sure) refl
+
+  back-there : There d l (backOf s)
+  back-there = back-at (s .sure) refl
 
   front-turns : s .sure ≡ false → InTurn h false (stretchWords d l (frontOf s))
   front-turns e = rw (front-in s e) (w .in-order)
@@ -103,19 +113,18 @@ module _ {h : Half} {d l : List ℕ} {s : Stretch} (w : SlotsThere h d l s) wher
 module _ {d o r : List ℕ} {s : Stretches} (w : AllThere d o r s) where
   pub level-looks : (t : Trip → Bool) → levelMatches t d o r s ≡ fourMatches t d o r s
   unfolding levelMatches joined lookAt lookMatches fourMatches
-  level-looks t =
-      rw (two-looks (w .first) t (s .first .sure) refl, two-looks (w .last) t (s .last .sure) refl, two-looks (w .replicas) t (s .replicas .sure) refl)
-      (simp append-assoc)
+  level-looks t = rw (two-looks (w .first) t, two-looks (w .last) t, two-looks (w .replicas) t) (simp append-assoc)
 
   looks-there : (k : ℕ) → k < looks → LookThere d o r (lookAt s k)
   unfolding lookAt lookWords
-  looks-there zero h = record { there = front-there (w .first) (s .first .sure) refl; ordered = λ e. starts-rise _ false (front-turns (w .first) e) }
-  looks-there (suc zero) h = record { there = back-there (w .first) (s .first .sure) refl; ordered = λ e. starts-rise _ true (back-turns (w .first) e) }
+  looks-there zero h = record { there = front-there (w .first); ordered = λ e. starts-rise _ false (front-turns (w .first) e) }
+  looks-there (suc zero) h = record { there = back-there (w .first); ordered = λ e. starts-rise _ true (back-turns (w .first) e) }
   looks-there (suc (suc zero)) h = record { there = w .between; ordered = λ e. tt }
-  looks-there (suc (suc (suc zero))) h = record { there = front-there (w .last) (s .last .sure) refl; ordered = λ e. starts-rise _ false (front-turns (w .last) e) }
-  looks-there (suc (suc (suc (suc zero)))) h = record { there = back-there (w .last) (s .last .sure) refl; ordered = λ e. starts-rise _ true (back-turns (w .last) e) }
-  looks-there (suc (suc (suc (suc (suc zero))))) h = record { there = front-there (w .replicas) (s .replicas .sure) refl; ordered = λ e. ends-rise _ (front-turns (w .replicas) e) }
-  looks-there (suc (suc (suc (suc (suc (suc k)))))) h = record { there = back-there (w .replicas) (s .replicas .sure) refl; ordered = λ e. tt }
+  looks-there (suc (suc (suc zero))) h = record { there = front-there (w .last); ordered = λ e. starts-rise _ false (front-turns (w .last) e) }
+  looks-there (suc (suc (suc (suc zero)))) h = record { there = back-there (w .last); ordered = λ e. starts-rise _ true (back-turns (w .last) e) }
+  looks-there (suc (suc (suc (suc (suc zero))))) h =
+      record { there = front-there (w .replicas); ordered = λ e. ends-rise _ (front-turns (w .replicas) e) }
+  looks-there (suc (suc (suc (suc (suc (suc k)))))) h = record { there = back-there (w .replicas); ordered = λ e. tt }
 
   pub level-there : LevelThere d o r s
   level-there = record { there = looks-there; first-between = w .first-between; between-last = w .between-last }

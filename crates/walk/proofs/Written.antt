@@ -1,17 +1,15 @@
 -- Ids written to the front of a list, and then more into its unused rest.
 use mathlib.Core.Path.{_≡_, refl, sym, ap, _∙_}
-use mathlib.Core.Bool.{Bool, true, false}
 use mathlib.Core.List.{List, [], _∷_, _++_, map-append, append-nil, append-assoc}
 use Prim.Native.Nat.{ℕ, suc, _+_, _-_, _≤_, _<_}
-use native.Mathlib.Numerals.{add-one}
 use native.Mathlib.Omega.{arith}
 use lib.ListN.{length, take, drop, getD, set, length-append, length-drop, length-map, drop-of-length-le}
-use lib.Seq.{take-all, drop-cons, drop-drop, take-at, drop-at, set-at, length-take-le}
+use lib.Seq.{take-all, drop-cons, drop-drop, take-at, drop-at, set-at}
 use Rattle.trip.specs.declared.Trip.{Trip}
 use Rattle.lists.specs.Lists.{over}
 use Rattle.layout.proofs.Edits.{idOf}
 use Rattle.store.specs.Entries.{ids}
-use Rattle.walk.specs.Part.{Listed, ListedFrom}
+use Rattle.walk.specs.Part.{Listed}
 
 pub ids-append : (ts us : List Trip) → ids (ts ++ us) ≡ ids ts ++ ids us
 ids-append ts us = map-append idOf ts us
@@ -21,11 +19,11 @@ ids-length ts = length-map ts idOf
 
 -- ---- words over a list
 
-pub over-none : (old : List ℕ) → over [] old ≡ old
+over-none : (old : List ℕ) → over [] old ≡ old
 unfolding over
 over-none old = refl
 
-pub over-length : (new old : List ℕ) → length new ≤ length old → length (over new old) ≡ length old
+over-length : (new old : List ℕ) → length new ≤ length old → length (over new old) ≡ length old
 unfolding over
 over-length new old h = rw (length-append, length-drop) (omega arith)
 
@@ -47,7 +45,7 @@ module _ (new old : List ℕ) (n : ℕ) (e : n ≡ length new) where
   unfolding over
   front-is = rw e (take-at new (drop (length new) old) (length new) refl)
 
-  pub over-more : (more : List ℕ) → take n (over new old) ++ over more (drop n old) ≡ over (new ++ more) old
+  over-more : (more : List ℕ) → take n (over new old) ++ over more (drop n old) ≡ over (new ++ more) old
   unfolding over
   over-more more = rw (front-is, e, drop-drop (length more) (length new) old, length-append, append-assoc)
 
@@ -59,6 +57,11 @@ nothing-after : (l : List ℕ) (n : ℕ) → drop (length l - n) (drop n l) ≡ 
 nothing-after l n = drop-of-length-le (drop n l) {i = length l - n} (rw length-drop (omega arith))
 
 -- ---- ids listed in a part that was lent from n on, and given back
+
+-- these ids stand from the word n on, the words before it stay, and r is the word after the ids
+pub record ListedFrom (n : ℕ) (ts : List Trip) (old new : List ℕ) (r : ℕ) : Type 0 where
+  pub counted : r ≡ n + length ts
+  pub written : new ≡ take n old ++ over (ids ts) (drop n old)
 
 module _ (l : List ℕ) (n : ℕ) where
   pub lent-room : (k : ℕ) → n + k ≤ length l → k ≤ length (take (length l - n) (drop n l))
@@ -87,44 +90,5 @@ module _ {ts : List Trip} {old mid : List ℕ} {n : ℕ} (one : Listed ts old mi
         written = two .written ∙ rw (one .written, rest-is (ids ts) old n e, ids-append) (over-more (ids ts) old n e (ids us));
       }
 
-pub front-room : (ts us : List Trip) {n : ℕ} → length (ts ++ us) ≤ n → length ts ≤ n
-front-room ts us h = omega (arith, length-append ts us)
-
 pub listed-none : (old : List ℕ) → Listed [] old old 0
 listed-none old = record { counted = refl; written = sym (over-none old) }
-
--- ---- ids listed from n on, and then more after them
-
-module _ {n k : ℕ} {ts : List Trip} {old mid : List ℕ} (one : ListedFrom n ts old mid k) where
-  from-length : n + length ts ≤ length old → length mid ≡ length old
-  from-length h =
-      let rest = over-length (ids ts) (drop n old) (rw (ids-length, length-drop) (omega arith)) in
-      ap length (one .written) ∙ length-append (take n old) _ ∙ rw (length-take-le n old (omega arith), rest, length-drop) (omega arith)
-
-  pub from-room : (us : List Trip) → n + length (ts ++ us) ≤ length old → k + length us ≤ length mid
-  from-room us h = let a = length-append ts us in omega (arith, one .counted, from-length (omega arith))
-
-  pub from-more : n + length ts ≤ length old → {us : List Trip} {new : List ℕ} {r : ℕ} → ListedFrom k us mid new r → ListedFrom n (ts ++ us) old new r
-  unfolding over
-  from-more h {us} two =
-      let a = take n old in
-      let b = ids ts in
-      let x = drop n old in
-      let mid-is : mid ≡ (a ++ b) ++ drop (length b) x = one .written ∙ sym (append-assoc a b (drop (length b) x)) in
-      let k-is : length (a ++ b) ≡ k =
-      rw (length-append, length-take-le n old (omega arith), ids-length) (sym (one .counted))
-      in
-      record {
-        counted = omega (arith, one .counted, two .counted, length-append ts us);
-        written = two .written
-            ∙ rw (
-              mid-is,
-              take-at (a ++ b) (drop (length b) x) k k-is,
-              drop-at (a ++ b) (drop (length b) x) k k-is,
-              ids-append,
-              length-append,
-              drop-drop,
-              append-assoc,
-              append-assoc,
-            ) refl;
-      }

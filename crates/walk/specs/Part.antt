@@ -1,8 +1,8 @@
 -- The entries between two words of a directory, which of them match, and their ids written to the front of a list.
 use mathlib.Core.Path.{_≡_}
 use mathlib.Core.Bool.{Bool}
-use mathlib.Core.List.{List, _++_}
-use Prim.Native.Nat.{ℕ, _+_, _-_, _*_, _≤_, _<_}
+use mathlib.Core.List.{List}
+use Prim.Native.Nat.{ℕ, _-_, _*_, _≤_, _<_}
 use lib.ListN.{length, getD, take, drop}
 use Rattle.lists.specs.Lists.{over}
 use Rattle.trip.specs.declared.Trip.{Trip}
@@ -15,11 +15,6 @@ use Rattle.plan.specs.Plan.{keepUnless}
 pub record Listed (ts : List Trip) (old new : List ℕ) (r : ℕ) : Type 0 where
   pub counted : r ≡ length ts
   pub written : new ≡ over (ids ts) old
-
--- the same from the word n on: those before it stay too, and r is the word after the ids
-pub record ListedFrom (n : ℕ) (ts : List Trip) (old new : List ℕ) (r : ℕ) : Type 0 where
-  pub counted : r ≡ n + length ts
-  pub written : new ≡ take n old ++ over (ids ts) (drop n old)
 
 -- the words of the entries of a stretch, and those of its trips that match
 unfoldable pub stretchWords : (directory arena : List ℕ) → Stretch → List ℕ

@@ -1,12 +1,12 @@
 -- The count is that of the looks passed.
 use mathlib.Core.Path.{_≡_, sym, ap, _∙_}
-use Prim.Native.Nat.{ℕ, _-_, _≤_}
+use Prim.Native.Nat.{_-_, _≤_}
 use lib.ListN.{length, length-append}
 use Rattle.lists.specs.Lists.{joined}
 use Rattle.plan.specs.Bounds.{inside}
-use Rattle.walk.specs.Levels.{lookMatches, levelLook, looksTo}
+use Rattle.walk.specs.Levels.{levelLook, looksTo}
 use Rattle.walk.proofs.Rows.{row-more}
-use Rattle.walk.proofs.Looks.{part-matches, none-before, none-after, from-to, originals-in, replicas-in, next-there, look-room}
+use Rattle.walk.proofs.Looks.{look-seen, none-before, none-after, from-to, originals-in, replicas-in, next-there, look-room}
 use native.Mathlib.Omega.{arith}
 use borrow.Author.Needs.{needs}
 use Rattle.walk.proofs.count.count_level.Statement.{statement}
@@ -32,15 +32,16 @@ loop-holds c =
     let f = levelLook (inside (g .bounds)) (g .directory .now) (g .originals .now) (g .replicas .now) (g .level) in
     let from = c .looks-from .ensures in
     let to = c .before .looks-to .ensures in
-    (omega (arith, from, to, from-to (g .level) (g .directory .now) .0), to, sym (ap length (ap (joined f) from ∙ none-before _ (s .pre .0))))
+    let ahead = from-to (g .level) (g .directory .now) .0 in
+    (omega (arith, from, to, ahead), to, sym (ap length (ap (joined f) from ∙ none-before _ (s .pre .0))))
 
 look-at-requires : tie.Need-look-at-requires Inv-loop μ-loop
 look-at-requires c κs = search needs
 
 part-of-requires : tie.Need-part-of-requires Inv-loop μ-loop
 part-of-requires c κs =
-    let q = c .before .before .loop in
-    rw (c .look-at .ensures) (next-there (c .before .before .before .before .before .before .before .before .pre .0) (c .before .loop-test .taken) (q .inv .1))
+    let w = c .before .before .before .before .before .before .before .before .pre .0 in
+    rw (c .look-at .ensures) (next-there w (c .before .loop-test .taken) (c .before .before .loop .inv .1))
 
 count-part-requires : tie.Need-count-part-requires Inv-loop μ-loop
 count-part-requires c κs = search needs
@@ -54,7 +55,7 @@ add-count c =
     let d = g .directory .now in
     let o = g .originals .now in
     let r = g .replicas .now in
-    let seen = part-matches (g .bounds) d o r _ (c .before .before .part-of .ensures) ∙ ap (lookMatches t d o r) (c .before .before .before .look-at .ensures) in
+    let seen = look-seen (g .bounds) d o r (g .level) (q .k) (c .before .before .before .look-at .ensures) (c .before .before .part-of .ensures) in
     let few = simp length-append at (look-room (s .pre .0) t (c .before .before .before .before .loop-test .taken) (q .inv .1) (s .pre .1)) in
     omega (arith, c .count-part .ensures, ap length seen)
 
@@ -73,7 +74,7 @@ loop-again c =
     let d = g .directory .now in
     let o = g .originals .now in
     let r = g .replicas .now in
-    let seen = part-matches (g .bounds) d o r _ (c .before .before .part-of .ensures) ∙ ap (lookMatches t d o r) (c .before .before .before .look-at .ensures) in
+    let seen = look-seen (g .bounds) d o r (g .level) (q .k) (c .before .before .before .look-at .ensures) (c .before .before .part-of .ensures) in
     let n = simp length-append at (ap length (row-more (levelLook t d o r (g .level)) (q .k))) in
     (omega arith, q .inv .1, omega (arith, c .count-part .ensures, ap length seen))
 

@@ -5,7 +5,7 @@ use lib.ListN.{length, length-append}
 use Rattle.lists.specs.Lists.{joined}
 use Rattle.plan.specs.Bounds.{inside}
 use Rattle.plan.specs.Plan.{stretchesAt}
-use Rattle.walk.specs.Levels.{levelMatches, levelUp}
+use Rattle.walk.specs.Levels.{levelUp}
 use Rattle.walk.proofs.Rows.{row-none, row-more, row-room}
 use native.Mathlib.Omega.{arith}
 use borrow.Author.Needs.{needs}

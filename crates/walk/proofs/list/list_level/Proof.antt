@@ -1,14 +1,14 @@
 -- The ids of the looks passed stand in the list's first words; each look lists into the rest.
 use mathlib.Core.Path.{_≡_, refl, ap, _∙_}
-use Prim.Native.Nat.{ℕ, _-_, _≤_}
+use Prim.Native.Nat.{_-_, _≤_}
 use lib.ListN.{length}
 use Rattle.lists.specs.Lists.{joined}
 use Rattle.plan.specs.Bounds.{inside}
 use Rattle.walk.specs.Part.{Listed}
-use Rattle.walk.specs.Levels.{lookMatches, levelLook, looksTo}
+use Rattle.walk.specs.Levels.{levelLook, looksTo}
 use Rattle.walk.proofs.Written.{lent-room, lent-back, listed-none, listed-length, listed-more}
 use Rattle.walk.proofs.Rows.{row-more}
-use Rattle.walk.proofs.Looks.{part-matches, none-before, none-after, from-to, originals-in, replicas-in, next-there, look-room, look-fits}
+use Rattle.walk.proofs.Looks.{look-seen, none-before, none-after, from-to, originals-in, replicas-in, next-there, look-room, look-fits}
 use native.Mathlib.Omega.{arith}
 use borrow.Author.Needs.{needs}
 use Rattle.walk.proofs.list.list_level.Statement.{statement}
@@ -33,15 +33,16 @@ loop-holds c =
     let g = s .args in
     let from = c .looks-from .ensures in
     let to = c .before .looks-to .ensures in
-    (omega (arith, from, to, from-to (g .level) (g .directory .now) .0), to, refl, rw (from, none-before _ (s .pre .0)) (listed-none _))
+    let ahead = from-to (g .level) (g .directory .now) .0 in
+    (omega (arith, from, to, ahead), to, refl, rw (from, none-before _ (s .pre .0)) (listed-none _))
 
 look-at-requires : tie.Need-look-at-requires Inv-loop μ-loop
 look-at-requires c κs = search needs
 
 part-of-requires : tie.Need-part-of-requires Inv-loop μ-loop
 part-of-requires c κs =
-    let q = c .before .before .loop in
-    rw (c .look-at .ensures) (next-there (c .before .before .before .before .before .before .before .before .before .pre .0) (c .before .loop-test .taken) (q .inv .1))
+    let w = c .before .before .before .before .before .before .before .before .before .pre .0 in
+    rw (c .look-at .ensures) (next-there w (c .before .loop-test .taken) (c .before .before .loop .inv .1))
 
 mul-list-part : tie.Need-mul-list-part Inv-loop μ-loop
 mul-list-part c =
@@ -80,7 +81,7 @@ list-part-requires c κs =
     let d = g .directory .now in
     let o = g .originals .now in
     let r = g .replicas .now in
-    let seen = part-matches (g .bounds) d o r _ (c .before .before .part-of .ensures) ∙ ap (lookMatches t d o r) (c .before .before .before .look-at .ensures) in
+    let seen = look-seen (g .bounds) d o r (g .level) (q .k) (c .before .before .before .look-at .ensures) (c .before .before .part-of .ensures) in
     let fits = look-fits (s .pre .0) t (c .before .before .before .before .loop-test .taken) (q .inv .1) (q .inv .3) (s .pre .1) in
     omega (arith, ap length seen, lent-room (q .out) (q .count) _ fits)
 
@@ -93,8 +94,10 @@ add-count c =
     let d = g .directory .now in
     let o = g .originals .now in
     let r = g .replicas .now in
-    let seen = part-matches (g .bounds) d o r _ (c .before .before .before .before .before .part-of .ensures) ∙ ap (lookMatches t d o r) (c .before .before .before .before .before .before .look-at .ensures) in
-    let fits = look-fits (s .pre .0) t (c .before .before .before .before .before .before .before .loop-test .taken) (q .inv .1) (q .inv .3) (s .pre .1) in
+    let look = c .before .before .before .before .before .before .look-at .ensures in
+    let seen = look-seen (g .bounds) d o r (g .level) (q .k) look (c .before .before .before .before .before .part-of .ensures) in
+    let taken = c .before .before .before .before .before .before .before .loop-test .taken in
+    let fits = look-fits (s .pre .0) t taken (q .inv .1) (q .inv .3) (s .pre .1) in
     omega (arith, ap length seen, c .before .before .list-part .ensures .counted)
 
 add-k : tie.Need-add-k Inv-loop μ-loop
@@ -113,7 +116,8 @@ loop-again c =
     let o = g .originals .now in
     let r = g .replicas .now in
     let taken = c .before .before .before .before .before .before .before .loop-test .taken in
-    let seen = part-matches (g .bounds) d o r _ (c .before .before .before .before .before .part-of .ensures) ∙ ap (lookMatches t d o r) (c .before .before .before .before .before .before .look-at .ensures) in
+    let look = c .before .before .before .before .before .before .look-at .ensures in
+    let seen = look-seen (g .bounds) d o r (g .level) (q .k) look (c .before .before .before .before .before .part-of .ensures) in
     let room = look-room (s .pre .0) t taken (q .inv .1) (s .pre .1) in
     let k = rw seen at (c .before .before .list-part .ensures) in
     let more = listed-more (q .inv .3) (lent-back (q .out) (q .count) k) in

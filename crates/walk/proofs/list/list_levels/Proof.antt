@@ -6,7 +6,7 @@ use Rattle.lists.specs.Lists.{joined}
 use Rattle.plan.specs.Bounds.{inside}
 use Rattle.plan.specs.Plan.{stretchesAt}
 use Rattle.walk.specs.Part.{Listed}
-use Rattle.walk.specs.Levels.{levelMatches, levelUp}
+use Rattle.walk.specs.Levels.{levelUp}
 use Rattle.walk.proofs.Written.{lent-room, lent-back, listed-none, listed-length, rest-room, listed-more}
 use Rattle.walk.proofs.Rows.{row-none, row-more, row-room, row-fits}
 use native.Mathlib.Omega.{arith}

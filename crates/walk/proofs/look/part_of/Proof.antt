@@ -1,5 +1,5 @@
 -- The part of the arena that the look names, and what the cut leaves of it.
-use mathlib.Core.Path.{_≡_, sym, ap, _∙_}
+use mathlib.Core.Path.{ap}
 use lib.ListN.{length}
 use Rattle.layout.specs.Words.{entryWords}
 use Rattle.walk.specs.Part.{stretchWords}
@@ -33,17 +33,20 @@ arena-of-requires c κs = search needs
 mul-part : tie.Need-mul-part
 mul-part c =
     let g = c .before .before .before .before .before .before .before .args in
-    omega (arith, c .before .before .shared-slice-known4 .given (g .look .stretch .from), c .before .shared-slice-known5 .given (g .look .stretch .to))
+    let a = c .before .before .shared-slice-known4 .given (g .look .stretch .from) in
+    omega (arith, a, c .before .shared-slice-known5 .given (g .look .stretch .to))
 
 mul-part-2 : tie.Need-mul-part-2
 mul-part-2 c =
     let g = c .before .before .before .before .before .before .before .args in
-    omega (arith, c .before .before .shared-slice-known4 .given (g .look .stretch .from), c .before .shared-slice-known5 .given (g .look .stretch .to))
+    let a = c .before .before .shared-slice-known4 .given (g .look .stretch .from) in
+    omega (arith, a, c .before .shared-slice-known5 .given (g .look .stretch .to))
 
 mul-part-3 : tie.Need-mul-part-3
 mul-part-3 c =
     let g = c .before .before .before .before .before .before .before .args in
-    omega (arith, c .before .before .shared-slice-known4 .given (g .look .stretch .from), c .before .shared-slice-known5 .given (g .look .stretch .to))
+    let a = c .before .before .shared-slice-known4 .given (g .look .stretch .from) in
+    omega (arith, a, c .before .shared-slice-known5 .given (g .look .stretch .to))
 
 sub-part : tie.Need-sub-part
 sub-part c = search needs
