@@ -28,9 +28,9 @@ use Rattle.layout.specs.Words.{Index}
 use Rattle.layout.proofs.Checked.{refused-for-all, passed}
 use Rattle.layout.proofs.Chains.{refuse-pass, refuse-taken}
 use Rattle.store.specs.Entries.{ids}
-use Rattle.ask.specs.Part.{Listed}
+use Rattle.walk.specs.Part.{Listed}
 use Rattle.ask.specs.Chain.{answeredAs, listedOf, answerOf, OnRuler}
-use Rattle.ask.proofs.Written.{ids-length}
+use Rattle.walk.proofs.Written.{ids-length}
 
 -- ---- the two endings
 

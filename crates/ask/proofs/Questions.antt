@@ -39,10 +39,10 @@ use Rattle.plan.proofs.Inside.{inside-related}
 use Rattle.plan.proofs.Looked.{walk}
 use Rattle.plan.proofs.Walked.{Suits, walk-in, in-walk, walk-distinct}
 use Rattle.plan.proofs.Suited.{planAt, plan-for, in-range, suits-plan, quick-right}
-use Rattle.ask.specs.Levels.{LevelsThere, levelsMatches}
+use Rattle.walk.specs.Levels.{LevelsThere, walkMatches}
 use Rattle.ask.specs.Chain.{OnRuler}
-use Rattle.ask.proofs.Levels.{Ready, levels-there, levels-match}
-use Rattle.ask.proofs.Written.{ids-length}
+use Rattle.walk.proofs.Levels.{Ready, levels-there, walk-matches}
+use Rattle.walk.proofs.Written.{ids-length}
 
 -- a time of a ruler is not far
 pub not-far : (n : Numbers) → T (inBounds n) → (t : Time) → T (scaleOf n .has t) → t .0 < far
@@ -107,7 +107,7 @@ module _ (ruler : Ruler) (ok : inBounds (ruler .numbers) ≡ true) (x : Index) (
   words-there = levels-there ready
 
   abbrev listing : List Trip
-  listing = levelsMatches test (x .directory) (x .originals) (x .replicas) p (p .low .0 + 1)
+  listing = walkMatches test (x .directory) (x .originals) (x .replicas) p
 
   pub listing-answer : ascending (ids listing) ≡ answer q ts
   unfolding answer matches
@@ -118,7 +118,7 @@ module _ (ruler : Ruler) (ok : inBounds (ruler .numbers) ≡ true) (x : Index) (
       let k = pairs-keep test (r .distinct) in
       let to = walk-in s falls ts (r .fits) (r .distinct) test p o suits in
       let from = in-walk s falls ts (r .fits) (r .distinct) test p o suits in
-      ap (λ (l : List Trip). ascending (ids l)) (levels-match ready)
+      ap (λ (l : List Trip). ascending (ids l)) (walk-matches ready)
       ∙ ascending-same (ids-differ d) (ids-differ k) (ids-in to) (ids-in from)
       ∙ ap (λ (l : List Trip). ascending (ids l)) (keep-ext test (related (q .relationship) w) ts agrees)
 
@@ -149,7 +149,7 @@ module _ (ruler : Ruler) (ok : inBounds (ruler .numbers) ≡ true) (x : Index) (
 
   -- the same for bounds and a plan that the code made
   abbrev listingOf : Bounds → Plan → List Trip
-  listingOf b p′ = levelsMatches (inside b) (x .directory) (x .originals) (x .replicas) p′ (p′ .low .0 + 1)
+  listingOf b p′ = walkMatches (inside b) (x .directory) (x .originals) (x .replicas) p′
 
   pub same-there : {p′ : Plan} → p′ ≡ p → LevelsThere (x .directory) (x .originals) (x .replicas) p′
   same-there e = rw e words-there

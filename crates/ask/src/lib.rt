@@ -1,10 +1,4 @@
 // Questions on the words of an index: the ids of the trips to which a window stands in a named relationship.
-mod cut;
-mod part;
-mod partition;
-mod stretch;
-mod walk;
-
 use layout::Outcome;
 use layout::Refusal;
 use plan::bounds::Bounds;
@@ -19,11 +13,11 @@ use trip::Named;
 use trip::Question;
 use trip::Window;
 use trip::relationship_of;
-use walk::count_levels;
-use walk::list_levels;
+use walk::count::count_levels;
+use walk::list::list_levels;
 ghost use mathlib.Core.Path.{_≡_};
 ghost use mathlib.Core.Bool.{true};
-ghost use Prim.Native.Nat.{_≤_, _<_, _+_, _*_};
+ghost use Prim.Native.Nat.{_≤_, _<_, _*_};
 ghost use lib.ListN.{length, getD};
 ghost use Rattle.ruler.specs.Ruler.{deepest, mostTrips, inBounds, scaleOf, scale};
 ghost use Rattle.layout.specs.Words.{partitions};
@@ -31,7 +25,7 @@ ghost use Rattle.layout.specs.Answers.{answer};
 ghost use Rattle.layout.specs.Refusals.{tableOf, isIndex, roomTest};
 ghost use Rattle.layout.specs.Calls.{index, asked, askOf};
 ghost use Rattle.plan.specs.Bounds.{inside};
-ghost use Rattle.ask.specs.Levels.{LevelsThere, levelsMatches};
+ghost use Rattle.walk.specs.Levels.{LevelsThere, walkMatches};
 ghost use Rattle.ask.specs.Chain.{OnRuler, listedOf, answerOf};
 
 // What a question answers: the outcome, and how many ids it listed.
@@ -50,21 +44,21 @@ fn trips_of(m: u32, directory: &[u32]) -> usize
 }
 
 // Whether the matches have room in an answer list. They are counted only where the index has more trips than the list has words.
-fn room_for(
+fn room_for<'a>(
     bounds: Bounds,
     plan: Plan,
     directory: &[u32],
-    originals: &[u32],
-    replicas: &[u32],
+    originals: &'a [u32],
+    replicas: &'a [u32],
     trips: usize,
     room: usize,
 ) -> Outcome
     requires { ⌜ LevelsThere (now directory) (now originals) (now replicas) plan ⌝ }
-    requires { ⌜ (length (levelsMatches (inside bounds) (now directory) (now originals) (now replicas) plan (plan .low .0 + 1)) ≤ trips)
+    requires { ⌜ (length (walkMatches (inside bounds) (now directory) (now originals) (now replicas) plan) ≤ trips)
         × (trips ≤ mostTrips) ⌝ }
     ensures { λ r.
         ⌜ r ≡ roomTest
-        (length (levelsMatches (inside bounds) (now (directory .entry)) (now (originals .entry)) (now (replicas .entry)) plan (plan .low .0 + 1)))
+        (length (walkMatches (inside bounds) (now (directory .entry)) (now (originals .entry)) (now (replicas .entry)) plan))
         room ⌝ }
 {
     if trips <= room {
@@ -81,11 +75,11 @@ fn room_for(
 }
 
 // The answer to a question whose window is on the ruler.
-fn listed(
+fn listed<'a>(
     ruler: Ruler,
     directory: &[u32],
-    originals: &[u32],
-    replicas: &[u32],
+    originals: &'a [u32],
+    replicas: &'a [u32],
     question: Question,
     answers: &mut [u32],
 ) -> Answered
@@ -133,11 +127,11 @@ fn refused(refusal: Refusal, detail: u32) -> Answered
 }
 
 // The answer to a question on an index, in the paper's words: a code and a window.
-fn by_code(
+fn by_code<'a>(
     ruler: Ruler,
     directory: &[u32],
-    originals: &[u32],
-    replicas: &[u32],
+    originals: &'a [u32],
+    replicas: &'a [u32],
     code: u32,
     window: Window,
     answers: &mut [u32],
@@ -170,11 +164,11 @@ fn by_code(
 
 // A question on any words: the code and the window, after the tests of the ruler, the directory and the index. The ids of the matches go
 // into the answer list's first words, in ascending order.
-pub fn ask(
+pub fn ask<'a>(
     numbers: Numbers,
     directory: &[u32],
-    originals: &[u32],
-    replicas: &[u32],
+    originals: &'a [u32],
+    replicas: &'a [u32],
     code: u32,
     window: Window,
     answers: &mut [u32],

@@ -2,7 +2,15 @@
 use crate::say;
 
 // Two questions to the four trips, in a list of four words. The list has the id first, and after it the words that it had.
-fn lists_one(d: &[u32], o: &[u32], r: &[u32], code: u32, start: u32, end: u32, id: u32) -> bool {
+fn lists_one<'a>(
+    d: &[u32],
+    o: &'a [u32],
+    r: &'a [u32],
+    code: u32,
+    start: u32,
+    end: u32,
+    id: u32,
+) -> bool {
     let mut answers = [5u32; 4];
     let window = say::window(start, end);
     let answered = ask::ask(say::ruler(6, 4), d, o, r, code, window, &mut answers);
@@ -11,7 +19,7 @@ fn lists_one(d: &[u32], o: &[u32], r: &[u32], code: u32, start: u32, end: u32, i
 }
 
 // "CONTAINED_BY [1,62]: 9. FINISHES [30,38]: 7."
-fn questions(d: &[u32], o: &[u32], r: &[u32]) {
+fn questions<'a>(d: &[u32], o: &'a [u32], r: &'a [u32]) {
     say::case(lists_one(d, o, r, 10, 1, 62, 9), b"CONTAINED_BY [1,62]: 9");
     say::case(lists_one(d, o, r, 3, 30, 38, 7), b"FINISHES [30,38]: 7");
 }

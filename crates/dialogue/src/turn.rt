@@ -145,13 +145,13 @@ fn remove_turn(
 }
 
 // A Q line.
-fn ask_turn(
+fn ask_turn<'a>(
     desk: Desk,
     code: u32,
     window: Window,
     directory: &[u32],
-    originals: &[u32],
-    replicas: &[u32],
+    originals: &'a [u32],
+    replicas: &'a [u32],
     answers: &mut [u32],
     reply: &mut [u8],
 ) -> Turned
@@ -256,14 +256,14 @@ fn remove_line(
 }
 
 // A Q line, after a D line.
-fn ask_line(
+fn ask_line<'a>(
     desk: Desk,
     code: u32,
     start: u32,
     end: u32,
     directory: &[u32],
-    originals: &[u32],
-    replicas: &[u32],
+    originals: &'a [u32],
+    replicas: &'a [u32],
     answers: &mut [u32],
     reply: &mut [u8],
 ) -> Turned

@@ -132,15 +132,15 @@ pub extern "C" fn kheyambo_remove(
 }
 
 #[no_mangle]
-pub extern "C" fn kheyambo_ask(
+pub extern "C" fn kheyambo_ask<'a>(
     w: u32,
     m: u32,
     code: u32,
     start: u32,
     end: u32,
     directory: &[u32],
-    originals: &[u32],
-    replicas: &[u32],
+    originals: &'a [u32],
+    replicas: &'a [u32],
     answers: &mut [u32],
 ) -> Told
     ensures { λ r.

@@ -1,3 +1,4 @@
 -- What the contracts of bounds and plans say.
 pub mod Bounds
 pub mod Plan
+pub mod Looks

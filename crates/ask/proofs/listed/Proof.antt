@@ -15,7 +15,7 @@ use Rattle.layout.specs.Calls.{index}
 use Rattle.layout.proofs.Chains.{of-room}
 use Rattle.store.specs.Entries.{ids}
 use Rattle.ask.specs.Chain.{listedOf}
-use Rattle.ask.proofs.Written.{listed-length}
+use Rattle.walk.proofs.Written.{listed-length}
 use Rattle.ask.proofs.Questions.{window-near, listing-answer, listing-length, listing-few, trips-few, trips-word, trips-in, same-there, same-listing}
 use Rattle.ask.proofs.Endings.{ends-refused, ends-accepted, sorted-over}
 use native.Mathlib.Omega.{arith}
