@@ -6,13 +6,14 @@ use plan::bounds::bounds_of;
 use plan::range::Plan;
 use plan::range::plan_for;
 use plan::stretches::half_length;
-use ruler::Judged;
 use ruler::Numbers;
 use ruler::Ruler;
 use trip::Named;
 use trip::Question;
 use trip::Window;
 use trip::relationship_of;
+use verify::Opened;
+use verify::open;
 use walk::count::count_levels;
 use walk::list::list_levels;
 ghost use mathlib.Core.Path.{_≡_};
@@ -178,12 +179,11 @@ pub fn ask<'a>(
         ≡ askOf (scaleOf numbers) (index (now (directory .entry)) (now (originals .entry)) (now (replicas .entry)))
         code window (now (answers .entry)) ⌝ }
 {
-    let checked = verify::check(numbers, directory, originals, replicas);
-    if let Outcome::Refused { refusal, detail } = checked {
-        return refused(refusal, detail);
+    let opened = open(numbers, directory, originals, replicas);
+    match opened {
+        Opened::Index(ruler) => {
+            by_code(ruler, directory, originals, replicas, code, window, answers)
+        }
+        Opened::Refused(refusal) => refused(refusal, 0),
     }
-    let Judged::Good(ruler) = Ruler::new(numbers) else {
-        return refused(Refusal::RulerOutOfBounds, 0);
-    };
-    by_code(ruler, directory, originals, replicas, code, window, answers)
 }

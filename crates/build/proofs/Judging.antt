@@ -66,43 +66,6 @@ before-none table i x h e differ =
     distinct-at d (w .0) i (w .1) (rw length-rows h)
     (ap (λ (t : Trip). t .id) there-is ∙ q ∙ e ∙ sym (ap (λ (t : Trip). t .id) here-is))))
 
--- ---- the tests of one row
-
--- the test of both times, by what the code found of each
-pub both-on : (a b x y v : Bool) → a ≡ x → b ≡ y → not (a && b) ≡ v → not (x && y) ≡ v
-both-on a b x y v e f h = ap₂ (λ (u w : Bool). not (u && w)) (sym e) (sym f) ∙ h
-
-module _ (s : Scale) (there : List Trip) (t : Trip) (k : ℕ) where
-  abbrev says : Outcome
-  says = rowTests s there t k Accepted
-
-  pub row-4 : not (s .has (t .start) && s .has (t .end)) ≡ true → Refused OffRuler k ≡ says
-  unfolding rowTests timeTests offRuler refuse
-  row-4 e = rw e
-
-  module _ (on : not (s .has (t .start) && s .has (t .end)) ≡ false) where
-    pub row-5 : before (t .end) (t .start) ≡ true → Refused Backward k ≡ says
-    unfolding rowTests timeTests offRuler backward refuse
-    row-5 e = rw (on, e)
-
-    module _ (forward : before (t .end) (t .start) ≡ false) where
-      pub row-fits : Fits s t
-      unfolding offRuler backward
-      row-fits = of-times s t (rw on tt) (rw forward tt)
-
-      pub row-6 : hasId (t .id) there ≡ true → Refused IdTaken k ≡ says
-      unfolding rowTests timeTests offRuler backward refuse
-      row-6 e = rw (on, forward, e)
-
-      module _ (fresh : hasId (t .id) there ≡ false) where
-        pub row-11 : mostPartitions < partitionsHolding s t → Refused TooManyPartitions k ≡ says
-        unfolding rowTests timeTests offRuler backward inTooMany refuse
-        row-11 h = rw (on, forward, fresh, lt-ltb mostPartitions (partitionsHolding s t) h)
-
-        pub row-0 : partitionsHolding s t ≤ mostPartitions → Accepted ≡ says
-        unfolding rowTests timeTests offRuler backward inTooMany refuse
-        row-0 h = rw (on, forward, fresh, le-ltb mostPartitions (partitionsHolding s t) h)
-
 -- ---- the first bad row
 
 pub rows-turn : (s : Scale) (table : List ℕ) (i : ℕ) → i < length table / entryWords

@@ -3,14 +3,14 @@ mod halves;
 mod rows;
 
 use crate::halves::fill;
-use crate::rows::is_refused;
 use crate::rows::lacks_room;
-use crate::rows::refused;
 use crate::rows::rows_outcome;
 use layout::ENTRY_WORDS;
 use layout::Half;
 use layout::Outcome;
 use layout::Refusal;
+use layout::is_accepted;
+use layout::refused;
 use ruler::Judged;
 use ruler::Numbers;
 use ruler::Ruler;
@@ -41,7 +41,7 @@ fn judged(
         return refused(Refusal::DirectoryLength, 0);
     }
     let bad = rows_outcome(ruler, table);
-    if is_refused(bad) {
+    if !is_accepted(bad) {
         return bad;
     }
     if lacks_room(ruler, table, originals, replicas) {
@@ -70,7 +70,7 @@ fn build_on(
         originals.len(),
         replicas.len(),
     );
-    if is_refused(outcome) {
+    if !is_accepted(outcome) {
         return outcome;
     }
     let half = directory.len() / 2;

@@ -3,45 +3,25 @@ use layout::ENTRY_WORDS;
 use layout::MOST_PARTITIONS;
 use layout::Outcome;
 use layout::Refusal;
+use layout::is_accepted;
+use layout::refused;
+use layout::time_outcome;
 use ruler::Ruler;
 use store::counting::partitions_holding;
 use store::entry::trip_at;
 use store::ids::ids_differ;
 ghost use mathlib.Core.Path.{_≡_};
-ghost use mathlib.Core.Bool.{true, not};
+ghost use mathlib.Core.Bool.{true};
 ghost use mathlib.Core.List.{[]};
 ghost use Prim.Native.Nat.{_/_, _<_, _≤_};
 ghost use lib.ListN.{length};
 ghost use Rattle.lists.specs.Lists.{sumOver};
 ghost use Rattle.ruler.specs.Ruler.{mostTrips, inBounds, scale};
 ghost use Rattle.layout.specs.Words.{entryWords, tripAt, rows};
-ghost use Rattle.layout.specs.Refusals.{isAccepted, hasId, noRoom, partitionsHolding, rowTests, firstBadRow};
+ghost use Rattle.layout.specs.Refusals.{hasId, noRoom, partitionsHolding, rowTests, firstBadRow};
 ghost use Rattle.store.specs.Ids.{idsDiffer};
 ghost use Rattle.build.specs.Laid.{Tested};
 ghost use Rattle.build.specs.Judged.{rowsBack, lengths};
-
-// A refusal with the row that decides it.
-pub fn refused(refusal: Refusal, row: usize) -> Outcome
-    requires { ⌜ row < mostTrips ⌝ }
-    ensures { λ r. ⌜ r ≡ Outcome.Refused refusal row ⌝ }
-{
-    Outcome::Refused {
-        refusal,
-        detail: row as u32,
-    }
-}
-
-pub fn is_refused(outcome: Outcome) -> bool
-    ensures { λ r. ⌜ r ≡ not (isAccepted outcome) ⌝ }
-{
-    match outcome {
-        Outcome::Accepted => false,
-        Outcome::Refused {
-            refusal: _,
-            detail: _,
-        } => true,
-    }
-}
 
 // Whether a row before row i has the id.
 fn id_before(table: &[u32], i: usize, id: u32) -> bool
@@ -80,22 +60,19 @@ fn row_outcome(ruler: Ruler, table: &[u32], i: usize, differ: bool) -> Outcome
     ensures { λ r. ⌜ r ≡ rowTests (scale ruler) (rowsBack (now (table .entry)) i) (tripAt (now (table .entry)) i) i Outcome.Accepted ⌝ }
 {
     let t = trip_at(table, i);
+    let row = i as u32;
     let start = t.start;
     let end = t.end;
-    let off_ruler = !(ruler.has(start) & ruler.has(end));
-    let backward = end.before(start);
-    if off_ruler {
-        return refused(Refusal::OffRuler, i);
-    }
-    if backward {
-        return refused(Refusal::Backward, i);
+    let times = time_outcome(ruler, start, end, row);
+    if !is_accepted(times) {
+        return times;
     }
     if id_taken(table, i, t.id, differ) {
-        return refused(Refusal::IdTaken, i);
+        return refused(Refusal::IdTaken, row);
     }
     // No trip can meet this test; it is kept from the old exporter.
     if MOST_PARTITIONS < partitions_holding(ruler, t) {
-        return refused(Refusal::TooManyPartitions, i);
+        return refused(Refusal::TooManyPartitions, row);
     }
     Outcome::Accepted
 }
@@ -111,7 +88,7 @@ fn first_bad_row(ruler: Ruler, table: &[u32], differ: bool) -> Outcome
     let mut i: usize = 0;
     while i < n {
         let found = row_outcome(ruler, table, i, differ);
-        if is_refused(found) {
+        if !is_accepted(found) {
             return found;
         }
         i += 1;

@@ -1,70 +1,34 @@
--- Chains of refusals as the code goes through them: what a refused front decides, the tests of a trip, and the outcome of each edit on
--- words that are an index.
-use mathlib.Core.Path.{_≡_, refl, sym, ap, subst, _∙_}
-use mathlib.Core.Bool.{Bool, true, false, not, _||_}
+-- Chains of refusals as the code goes through them: the outcome of each edit on words that are an index, and on words that are none.
+use mathlib.Core.Path.{_≡_, refl, sym, ap, _∙_}
+use mathlib.Core.Bool.{Bool, true, false, not, _||_, true≢false}
 use mathlib.Core.List.{List, _∷_}
 use Prim.Native.Nat.{ℕ, _+_, _-_, _*_, _/_, _^_, _<_}
 use native.Mathlib.Omega.{arith}
-use lib.Dec.{T, ltb, leb}
+use lib.Dec.{ltb, leb}
 use lib.ListN.{length, getD}
-use Rattle.lists.proofs.Tests.{to-T}
-use Rattle.ruler.specs.Ruler.{Scale, mostTrips}
+use Rattle.ruler.specs.declared.Numbers.{Numbers}
+use Rattle.ruler.specs.Ruler.{Scale, mostTrips, scaleOf}
 use Rattle.trip.specs.declared.Trip.{Trip}
 use Rattle.layout.specs.declared.Half.the-variants.{Originals, Replicas}
 use Rattle.layout.specs.declared.Refusal.{Refusal}
-use Rattle.layout.specs.declared.Refusal.the-variants.{TableSize, OffRuler, Backward, IdTaken, NoRoom, NoSuchId, TooManyPartitions}
+use Rattle.layout.specs.declared.Refusal.the-variants.{TableSize, NoRoom, NoSuchId}
 use Rattle.layout.specs.declared.Outcome.{Outcome}
 use Rattle.layout.specs.declared.Outcome.the-variants.{Accepted, Refused}
 use Rattle.layout.specs.Words.{entryWords, entries, Index, lengthsOf, layout}
-use Rattle.layout.specs.Refusals.{isAccepted, refuse, full, offRuler, backward, hasId, noRoom, inTooMany, timeTests, rowTests, tableOf, indexTests, addOutcome, removeOutcome, checkOutcome}
+use Rattle.layout.specs.Refusals.{isAccepted, refuse, full, hasId, noRoom, rowTests, tableOf, addOutcome, removeOutcome, checkOutcome}
 use Rattle.layout.specs.Calls.{ifAccepted, after, leaving, addOf, removeOf, without}
 use Rattle.layout.specs.Walk.{slotsOfTrip}
-use Rattle.layout.proofs.Chains.{of-accepted}
+use Rattle.layout.proofs.Links.{then-refused, is-accepted, row-then}
 use Rattle.layout.proofs.Tables.{RowOk, of-rowTests, to-rowTests}
 use Rattle.layout.proofs.Checked.{passed}
 use Rattle.layout.proofs.RoomAdded.{entries-added}
+use Rattle.verify.specs.declared.Opened.{Opened}
+use Rattle.verify.specs.declared.Opened.the-variants.{Refused as Shuts}
+use Rattle.verify.specs.Opening.{openOf}
+use Rattle.verify.proofs.Opening.{shut-for-all}
 use Rattle.edit.proofs.Reading.{Shown}
 
--- ---- a chain that is refused in front is refused so whatever follows
-
-stuck : (b : Bool) (why : Refusal) (d : ℕ) (a rest : Outcome) → (isAccepted a ≡ false → a ≡ rest) → isAccepted (refuse b why d a) ≡ false
-    → refuse b why d a ≡ refuse b why d rest
-unfolding refuse
-stuck true why d a rest f e = refl
-stuck false why d a rest f e = f e
-
-never : {A : Type 0} → isAccepted Accepted ≡ false → A
-unfolding isAccepted
-never e = absurd (subst (λ (b : Bool). T b) e tt)
-
-pub row-refused : (s : Scale) (ts : List Trip) (t : Trip) (rest : Outcome) → isAccepted (rowTests s ts t 0 Accepted) ≡ false
-    → rowTests s ts t 0 Accepted ≡ rowTests s ts t 0 rest
-unfolding rowTests timeTests
-row-refused s ts t rest =
-    stuck _ _ 0 _ _ (stuck _ _ 0 _ _ (stuck _ _ 0 _ _ (stuck _ _ 0 Accepted rest (λ e. never e))))
-
-check-refused : (s : Scale) (x : Index) (rest : Outcome) → isAccepted (checkOutcome s x) ≡ false → checkOutcome s x ≡ indexTests s x rest
-unfolding checkOutcome indexTests
-check-refused s x rest = stuck _ _ 0 _ _ (stuck _ _ 0 _ _ (stuck _ _ 0 Accepted rest (λ e. never e)))
-
-refused-first : (s : Scale) (x : Index) (o : Outcome) → o ≡ checkOutcome s x → isAccepted o ≡ false → (rest : Outcome) → o ≡ indexTests s x rest
-refused-first s x o e q rest = e ∙ check-refused s x rest (sym (ap isAccepted e) ∙ q)
-
-pub is-accepted : (o : Outcome) → isAccepted o ≡ true → o ≡ Accepted
-is-accepted o e = of-accepted o (to-T e)
-
-pub not-T-of : (b : Bool) → b ≡ false → T (not b)
-not-T-of b e = rw e tt
-
--- ---- the tests of a trip, by what each says
-
-pub row-outcome : (s : Scale) (ts : List Trip) (t : Trip) (a b c d : Bool) → offRuler s (t .start) (t .end) ≡ a → backward (t .start) (t .end) ≡ b
-    → hasId (t .id) ts ≡ c → inTooMany s t ≡ d
-    → rowTests s ts t 0 Accepted ≡ refuse a OffRuler 0 (refuse b Backward 0 (refuse c IdTaken 0 (refuse d TooManyPartitions 0 Accepted)))
-unfolding rowTests timeTests
-row-outcome s ts t a b c d p q r u = rw (p, q, r, u)
-
--- a trip that passes them
+-- a trip that passes its tests
 pub row-taken : (s : Scale) (ts : List Trip) (t : Trip) (o : Outcome) → o ≡ rowTests s ts t 0 Accepted → isAccepted o ≡ true → RowOk s ts t
 row-taken s ts t o e a = of-rowTests s ts t 0 Accepted (sym e ∙ is-accepted o a) .0
 
@@ -86,7 +50,7 @@ module _ (s : Scale) (x : Index) (t : Trip) (good : checkOutcome s x ≡ Accepte
     -- the row is refused
     pub add-row : isAccepted (rowTests s (tableOf s x) t 0 Accepted) ≡ false → addOutcome s x t ≡ rowTests s (tableOf s x) t 0 Accepted
     unfolding refuse
-    add-row e = add-full false few ∙ sym (row-refused s (tableOf s x) t _ e)
+    add-row e = add-full false few ∙ row-then s (tableOf s x) t 0 _ ∙ then-refused (rowTests s (tableOf s x) t 0 Accepted) _ e
 
     module _ (row : RowOk s (tableOf s x) t) (inside : s .cell (t .end) < 2 ^ s .m) where
       -- the row is taken, and the room decides; the directory has the counts
@@ -113,13 +77,14 @@ remove-outcome s x i b good e = passed s x good _ ∙ rw e
 
 pub add-refused : (s : Scale) (x : Index) (t : Trip) (o : Outcome) → isAccepted o ≡ false → o ≡ addOutcome s x t → after o x ≡ addOf s x t
 unfolding addOf leaving ifAccepted isAccepted
-add-refused s x t Accepted e q = never e
+add-refused s x t Accepted e q = absurd (true≢false e)
 add-refused s x t (Refused why d) e q = rw (← q)
 
--- a check that is refused decides it
-pub add-unchecked : (s : Scale) (x : Index) (t : Trip) (o : Outcome) → o ≡ checkOutcome s x → isAccepted o ≡ false → after o x ≡ addOf s x t
-unfolding addOutcome
-add-unchecked s x t o e q = add-refused s x t o q (refused-first s x o e q _)
+-- an opening that is refused decides it
+pub add-shut : (n : Numbers) (x : Index) (t : Trip) (why : Refusal) {o : Opened} → o ≡ openOf n x → o ≡ Shuts why
+    → after (Refused why 0) x ≡ addOf (scaleOf n) x t
+unfolding addOutcome isAccepted
+add-shut n x t why e q = add-refused (scaleOf n) x t (Refused why 0) refl (sym (shut-for-all n x why e q _))
 
 pub add-accepted : (s : Scale) (x y : Index) (t : Trip) → addOutcome s x t ≡ Accepted → y ≡ layout s (t ∷ tableOf s x) (lengthsOf x)
     → after Accepted y ≡ addOf s x t
@@ -128,12 +93,13 @@ add-accepted s x y t q e = rw (q, e)
 
 pub remove-refused : (s : Scale) (x : Index) (i : ℕ) (o : Outcome) → isAccepted o ≡ false → o ≡ removeOutcome s x i → after o x ≡ removeOf s x i
 unfolding removeOf leaving ifAccepted isAccepted
-remove-refused s x i Accepted e q = never e
+remove-refused s x i Accepted e q = absurd (true≢false e)
 remove-refused s x i (Refused why d) e q = rw (← q)
 
-pub remove-unchecked : (s : Scale) (x : Index) (i : ℕ) (o : Outcome) → o ≡ checkOutcome s x → isAccepted o ≡ false → after o x ≡ removeOf s x i
-unfolding removeOutcome
-remove-unchecked s x i o e q = remove-refused s x i o q (refused-first s x o e q _)
+pub remove-shut : (n : Numbers) (x : Index) (i : ℕ) (why : Refusal) {o : Opened} → o ≡ openOf n x → o ≡ Shuts why
+    → after (Refused why 0) x ≡ removeOf (scaleOf n) x i
+unfolding removeOutcome isAccepted
+remove-shut n x i why e q = remove-refused (scaleOf n) x i (Refused why 0) refl (sym (shut-for-all n x why e q _))
 
 pub remove-accepted : (s : Scale) (x y : Index) (i : ℕ) → removeOutcome s x i ≡ Accepted → y ≡ layout s (without i (tableOf s x)) (lengthsOf x)
     → after Accepted y ≡ removeOf s x i

@@ -10,6 +10,5 @@ pub mod Shrunk
 -- the tests, and the whole index
 pub mod Reading
 pub mod Chained
-pub mod Opening
 pub mod Removed
 pub mod Lent

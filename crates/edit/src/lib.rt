@@ -4,13 +4,14 @@ use layout::ENTRY_WORDS;
 use layout::Half;
 use layout::Outcome;
 use layout::Refusal;
-use ruler::Judged;
+use layout::is_accepted;
+use layout::refused;
 use ruler::Numbers;
 use ruler::Ruler;
 use store::entry;
-use tests::is_accepted;
-use tests::refused;
 use trip::Trip;
+use verify::Opened;
+use verify::open;
 ghost use mathlib.Core.Path.{_≡_};
 ghost use mathlib.Core.Bool.{true};
 ghost use mathlib.Core.List.{_∷_, List·Memᴰ};
@@ -129,7 +130,7 @@ fn remove_checked(
     let used = ENTRY_WORDS * trips;
     let place = tests::find_id(&originals[0..used], id);
     if trips <= place {
-        return refused(Refusal::NoSuchId);
+        return refused(Refusal::NoSuchId, 0);
     }
     let t = entry::trip_at(originals, place);
     take_out(ruler, directory, originals, replicas, t);
@@ -148,14 +149,11 @@ pub fn add(
         ⌜ after r (index (now (directory .exit)) (now (originals .exit)) (now (replicas .exit)))
         ≡ addOf (scaleOf numbers) (index (now (directory .entry)) (now (originals .entry)) (now (replicas .entry))) t ⌝ }
 {
-    let checked = verify::check(numbers, directory, originals, replicas);
-    if !is_accepted(checked) {
-        return checked;
+    let opened = open(numbers, directory, originals, replicas);
+    match opened {
+        Opened::Index(ruler) => add_checked(ruler, directory, originals, replicas, t),
+        Opened::Refused(refusal) => refused(refusal, 0),
     }
-    let Judged::Good(ruler) = Ruler::new(numbers) else {
-        return refused(Refusal::RulerOutOfBounds);
-    };
-    add_checked(ruler, directory, originals, replicas, t)
 }
 
 // Removes the trip of an id.
@@ -170,12 +168,9 @@ pub fn remove(
         ⌜ after r (index (now (directory .exit)) (now (originals .exit)) (now (replicas .exit)))
         ≡ removeOf (scaleOf numbers) (index (now (directory .entry)) (now (originals .entry)) (now (replicas .entry))) id ⌝ }
 {
-    let checked = verify::check(numbers, directory, originals, replicas);
-    if !is_accepted(checked) {
-        return checked;
+    let opened = open(numbers, directory, originals, replicas);
+    match opened {
+        Opened::Index(ruler) => remove_checked(ruler, directory, originals, replicas, id),
+        Opened::Refused(refusal) => refused(refusal, 0),
     }
-    let Judged::Good(ruler) = Ruler::new(numbers) else {
-        return refused(Refusal::RulerOutOfBounds);
-    };
-    remove_checked(ruler, directory, originals, replicas, id)
 }

@@ -5,6 +5,9 @@ use layout::Half;
 use layout::MOST_PARTITIONS;
 use layout::Outcome;
 use layout::Refusal;
+use layout::is_accepted;
+use layout::refused;
+use layout::time_outcome;
 use ruler::Ruler;
 use store::places;
 use trip::Trip;
@@ -16,30 +19,12 @@ ghost use lib.ListN.{length};
 ghost use Rattle.ruler.specs.Ruler.{inBounds, scale};
 ghost use Rattle.layout.specs.declared.Outcome.{Outcome};
 ghost use Rattle.layout.specs.Words.{entryWords, rows};
-ghost use Rattle.layout.specs.Refusals.{isAccepted, partitionsHolding, rowTests, checkOutcome, addOutcome};
+ghost use Rattle.layout.specs.Refusals.{partitionsHolding, rowTests, checkOutcome, addOutcome};
 ghost use Rattle.layout.specs.Calls.{index};
 ghost use Rattle.layout.specs.Walk.{slotsOfTrip};
 ghost use Rattle.store.specs.Passes.{mostEntries};
 ghost use Rattle.store.specs.Places.{mostSlots};
 ghost use Rattle.edit.specs.Search.{placeOfId};
-
-pub fn is_accepted(outcome: Outcome) -> bool
-    ensures { λ r. ⌜ r ≡ isAccepted outcome ⌝ }
-{
-    match outcome {
-        Outcome::Accepted => true,
-        Outcome::Refused {
-            refusal: _,
-            detail: _,
-        } => false,
-    }
-}
-
-pub fn refused(refusal: Refusal) -> Outcome
-    ensures { λ r. ⌜ r ≡ Outcome.Refused refusal 0 ⌝ }
-{
-    Outcome::Refused { refusal, detail: 0 }
-}
 
 // The place of the trip of an id among the entries of a part, or their number where none has it.
 pub fn find_id(part: &[u32], id: u32) -> usize
@@ -91,17 +76,15 @@ fn trip_outcome(ruler: Ruler, there: &[u32], t: Trip) -> Outcome
 {
     let start = t.start;
     let end = t.end;
-    if !(ruler.has(start) & ruler.has(end)) {
-        return refused(Refusal::OffRuler);
-    }
-    if end.before(start) {
-        return refused(Refusal::Backward);
+    let times = time_outcome(ruler, start, end, 0);
+    if !is_accepted(times) {
+        return times;
     }
     if find_id(there, t.id) < there.len() / ENTRY_WORDS {
-        return refused(Refusal::IdTaken);
+        return refused(Refusal::IdTaken, 0);
     }
     if (MOST_PARTITIONS as usize) < partitions_of_trip(ruler, t) {
-        return refused(Refusal::TooManyPartitions);
+        return refused(Refusal::TooManyPartitions, 0);
     }
     Outcome::Accepted
 }
@@ -123,7 +106,7 @@ pub fn add_outcome(
     let trips = directory[half - 1] as usize;
     let copies = directory[n - 1] as usize;
     if Ruler::MOST_TRIPS <= trips {
-        return refused(Refusal::TableSize);
+        return refused(Refusal::TableSize, 0);
     }
     let used = ENTRY_WORDS * trips;
     let row = trip_outcome(ruler, &originals[0..used], t);
@@ -131,10 +114,10 @@ pub fn add_outcome(
         return row;
     }
     if lacks_room(ruler, Half::Originals, trips, originals.len(), t) {
-        return refused(Refusal::NoRoom);
+        return refused(Refusal::NoRoom, 0);
     }
     if lacks_room(ruler, Half::Replicas, copies, replicas.len(), t) {
-        return refused(Refusal::NoRoom);
+        return refused(Refusal::NoRoom, 0);
     }
     Outcome::Accepted
 }

@@ -15,7 +15,7 @@ use Rattle.trip.specs.declared.Trip.{Trip}
 use Rattle.trip.specs.declared.Window.{Window}
 use Rattle.layout.specs.declared.Half.the-variants.{Originals, Replicas}
 use Rattle.layout.specs.declared.Refusal.{Refusal}
-use Rattle.layout.specs.declared.Refusal.the-variants.{NoRoom}
+use Rattle.layout.specs.declared.Refusal.the-variants.{OffRuler, Backward, NoRoom}
 use Rattle.layout.specs.declared.Outcome.{Outcome}
 use Rattle.layout.specs.declared.Outcome.the-variants.{Accepted, Refused}
 use Rattle.layout.specs.Words.{entryWords, directoryLength, entries, Lengths}
@@ -101,6 +101,16 @@ to-offRuler s t f = to-not-not (s .has (t .start) && s .has (t .end)) (to-and (s
 pub to-backward : (s : Scale) (t : Trip) → Fits s t → T (not (backward (t .start) (t .end)))
 unfolding backward
 to-backward s t f = le→nltb (t .end .0) (t .start .0) (f .ordered)
+
+-- the chain of both, by what the code found of each time
+pub off-said : (s : Scale) (start end : Time) {a b : Bool} (v : Bool) → a ≡ s .has start → b ≡ s .has end → not (a && b) ≡ v → offRuler s start end ≡ v
+unfolding offRuler
+off-said s start end v e f h = rw (← e, ← f) h
+
+pub times-said : (s : Scale) (start end : Time) (k : ℕ) (a b : Bool) → offRuler s start end ≡ a → backward start end ≡ b
+    → refuse a OffRuler k (refuse b Backward k Accepted) ≡ timeTests s start end k Accepted
+unfolding timeTests
+times-said s start end k a b e f = rw (e, f)
 
 pub of-hasId : (i : ℕ) (ts : List Trip) → T (not (hasId i ts)) → (u : Trip) → Mem u ts → u .id ≡ i → ⊥
 unfolding hasId

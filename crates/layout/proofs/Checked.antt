@@ -4,7 +4,6 @@ use mathlib.Core.Path.{_≡_, refl, sym, ap, _∙_}
 use mathlib.Core.Logic.{_↔_}
 use mathlib.Core.Bool.{Bool, true, false, not}
 use Prim.Native.Nat.{ℕ}
-use native.Mathlib.Omega.{arith}
 use lib.ListN.{length}
 use borrow.Author.Tests.{ne-eqb}
 use Rattle.lists.proofs.Tests.{to-T}
@@ -14,26 +13,28 @@ use Rattle.layout.specs.declared.Refusal.the-variants.{RulerOutOfBounds,
 use Rattle.layout.specs.declared.Outcome.{Outcome}
 use Rattle.layout.specs.declared.Outcome.the-variants.{Accepted, Refused}
 use Rattle.layout.specs.Words.{Index, directoryLength}
-use Rattle.layout.specs.Refusals.{refusalNumber, numberOf, refuse, outOfBounds, badDirectory, isIndex, indexTests, checkOutcome}
+use Rattle.layout.specs.Refusals.{refusalNumber, numberOf, detailOf, refuse, outOfBounds, badDirectory, isIndex, indexTests, checkOutcome}
+use Rattle.layout.specs.Calls.{ifAccepted}
 use Rattle.layout.proofs.Chains.{refuse-pass, refuse-taken, to-outOfBounds, to-badDirectory}
 use Rattle.layout.proofs.Indexes.{Indexed}
-use Rattle.layout.proofs.Edited.{of-indexTests, to-indexTests}
-
--- one link of a chain: refused here for every rest, or not here
-later : (b : Bool) (why : Refusal) (d : ℕ) (first rest : Outcome) → ((by : Refusal) (k : ℕ) → first ≡ Refused by k → rest ≡ Refused by k)
-    → (by : Refusal) (k : ℕ) → refuse b why d first ≡ Refused by k → refuse b why d rest ≡ Refused by k
-unfolding refuse
-later true why d first rest h by k e = e
-later false why d first rest h by k e = h by k e
-
-accepted-not : {A : Type 0} (by : Refusal) (k : ℕ) → Accepted ≡ Refused by k → A
-accepted-not by k e = let z : _≡_ {A = ℕ} 0 1 = cc in absurd (omega arith)
+use Rattle.layout.proofs.Edited.{of-indexTests}
+use Rattle.layout.proofs.Links.{index-then}
 
 -- where the check is refused, so is every call on these words, for the same reason
 pub refused-for-all : (s : Scale) (x : Index) (why : Refusal) (d : ℕ) → checkOutcome s x ≡ Refused why d
     → (rest : Outcome) → indexTests s x rest ≡ Refused why d
+unfolding ifAccepted
+refused-for-all s x why d e rest = index-then s x rest ∙ rw e
+
+-- and has no detail
+link-detail : (b : Bool) (why : Refusal) (rest : Outcome) → detailOf rest ≡ 0 → detailOf (refuse b why 0 rest) ≡ 0
+unfolding refuse
+link-detail true why rest e = refl
+link-detail false why rest e = e
+
+pub no-detail : (s : Scale) (x : Index) → detailOf (checkOutcome s x) ≡ 0
 unfolding checkOutcome indexTests
-refused-for-all s x why d e rest = later _ _ 0 _ _ (later _ _ 0 _ _ (later _ _ 0 Accepted rest (λ by k q. accepted-not by k q))) why d e
+no-detail s x = link-detail _ _ _ (link-detail _ _ _ (link-detail _ _ _ refl))
 
 -- where it passes, the words are an index
 pub checked : (s : Scale) (x : Index) → checkOutcome s x ≡ Accepted → Indexed s x
@@ -42,7 +43,8 @@ checked s x e = of-indexTests s x Accepted e .0
 
 -- and the rest of a call's chain decides
 pub passed : (s : Scale) (x : Index) → checkOutcome s x ≡ Accepted → (rest : Outcome) → indexTests s x rest ≡ rest
-passed s x e rest = to-indexTests s x rest (checked s x e)
+unfolding ifAccepted
+passed s x e rest = index-then s x rest ∙ rw e
 
 -- ---- 8: a call whose other links give other numbers is refused with 8 exactly where the check is
 

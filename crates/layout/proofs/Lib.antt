@@ -24,6 +24,7 @@ pub mod Reported
 -- refusals, tables and indexes
 pub mod Chains
 pub mod Links
+pub mod OneRow
 pub mod Tables
 pub mod Indexes
 pub mod Local

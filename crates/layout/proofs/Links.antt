@@ -3,12 +3,14 @@ use mathlib.Core.Path.{_≡_, refl, sym, ap, _∙_}
 use mathlib.Core.Bool.{Bool, true, false, true≢false, false≢true}
 use mathlib.Core.List.{List, [], _∷_}
 use Prim.Native.Nat.{ℕ, suc}
+use Rattle.ruler.specs.declared.Time.{Time}
 use Rattle.ruler.specs.Ruler.{Scale}
 use Rattle.trip.specs.declared.Trip.{Trip}
-use Rattle.layout.specs.declared.Refusal.the-variants.{OffRuler, Backward, IdTaken, TooManyPartitions}
+use Rattle.layout.specs.declared.Refusal.{Refusal}
 use Rattle.layout.specs.declared.Outcome.{Outcome}
 use Rattle.layout.specs.declared.Outcome.the-variants.{Accepted, Refused}
-use Rattle.layout.specs.Refusals.{isAccepted, refuse, offRuler, backward, hasId, inTooMany, timeTests, rowTests, firstBadRow}
+use Rattle.layout.specs.Words.{Index}
+use Rattle.layout.specs.Refusals.{isAccepted, refuse, timeTests, rowTests, firstBadRow, indexTests, checkOutcome}
 use Rattle.layout.specs.Calls.{ifAccepted}
 
 -- the first outcome where it is a refusal, and else the rest
@@ -36,22 +38,29 @@ unfolding ifAccepted
 then-then Accepted b c = refl
 then-then (Refused why d) b c = refl
 
--- the tests of a row, and of all rows
+-- ---- the chains
 
-four-then : (a b c d : Bool) (k : ℕ) (rest : Outcome)
-    → refuse a OffRuler k (refuse b Backward k (refuse c IdTaken k (refuse d TooManyPartitions k rest)))
-    ≡ andThen (refuse a OffRuler k (refuse b Backward k (refuse c IdTaken k (refuse d TooManyPartitions k Accepted)))) rest
+-- one link before a chain: what follows the chain follows both
+link : (b : Bool) (why : Refusal) (k : ℕ) (all first rest : Outcome) → all ≡ andThen first rest
+    → refuse b why k all ≡ andThen (refuse b why k first) rest
 unfolding refuse ifAccepted
-four-then true b c d k rest = refl
-four-then false true c d k rest = refl
-four-then false false true d k rest = refl
-four-then false false false true k rest = refl
-four-then false false false false k rest = refl
+link true why k all first rest e = refl
+link false why k all first rest e = e
+
+pub time-then : (s : Scale) (start end : Time) (k : ℕ) (rest : Outcome)
+    → timeTests s start end k rest ≡ andThen (timeTests s start end k Accepted) rest
+unfolding timeTests ifAccepted
+time-then s start end k rest = link _ _ k _ _ rest (link _ _ k rest Accepted rest refl)
 
 pub row-then : (s : Scale) (there : List Trip) (t : Trip) (k : ℕ) (rest : Outcome)
     → rowTests s there t k rest ≡ andThen (rowTests s there t k Accepted) rest
-unfolding rowTests timeTests
-row-then s there t k rest = four-then (offRuler s (t .start) (t .end)) (backward (t .start) (t .end)) (hasId (t .id) there) (inTooMany s t) k rest
+unfolding rowTests timeTests ifAccepted
+row-then s there t k rest = link _ _ k _ _ rest (link _ _ k _ _ rest (link _ _ k _ _ rest (link _ _ k rest Accepted rest refl)))
+
+-- 1, 3, 8: the check of the index, then the rest of a call's chain
+pub index-then : (s : Scale) (x : Index) (rest : Outcome) → indexTests s x rest ≡ andThen (checkOutcome s x) rest
+unfolding checkOutcome indexTests ifAccepted
+index-then s x rest = link _ _ 0 _ _ rest (link _ _ 0 _ _ rest (link _ _ 0 rest Accepted rest refl))
 
 pub rows-then : (s : Scale) (k : ℕ) (earlier ts : List Trip) (rest : Outcome)
     → firstBadRow s k earlier ts rest ≡ andThen (firstBadRow s k earlier ts Accepted) rest

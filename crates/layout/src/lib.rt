@@ -1,8 +1,12 @@
 // What the index is: its halves and subdivisions, the words of an entry, and what a call may answer.
+use ruler::Ruler;
+use ruler::Time;
 ghost use mathlib.Core.Path.{_≡_};
+ghost use mathlib.Core.Bool.{true};
+ghost use Rattle.ruler.specs.Ruler.{inBounds, scale};
 ghost use Rattle.layout.specs.Stored.{subdivisionOf};
 ghost use Rattle.layout.specs.Words.{entryWords};
-ghost use Rattle.layout.specs.Refusals.{mostPartitions, refusalNumber, numberOf, detailOf};
+ghost use Rattle.layout.specs.Refusals.{mostPartitions, refusalNumber, numberOf, detailOf, isAccepted, timeTests};
 
 // A directory half with its arena.
 pub enum Half {
@@ -116,4 +120,39 @@ pub fn detail_of(outcome: Outcome) -> u32
         Outcome::Accepted => 0,
         Outcome::Refused { refusal: _, detail } => detail,
     }
+}
+
+pub fn is_accepted(outcome: Outcome) -> bool
+    ensures { λ r. ⌜ r ≡ isAccepted outcome ⌝ }
+{
+    match outcome {
+        Outcome::Accepted => true,
+        Outcome::Refused {
+            refusal: _,
+            detail: _,
+        } => false,
+    }
+}
+
+// A refusal. Its detail is 0 unless the paper names another: the row that decides, or the matches.
+pub fn refused(refusal: Refusal, detail: u32) -> Outcome
+    ensures { λ r. ⌜ r ≡ Outcome.Refused refusal detail ⌝ }
+{
+    Outcome::Refused { refusal, detail }
+}
+
+// The tests 4 and 5 of a trip's times or of a window's.
+pub fn time_outcome(ruler: Ruler, start: Time, end: Time, detail: u32) -> Outcome
+    requires { ⌜ inBounds (ruler .numbers) ≡ true ⌝ }
+    ensures { λ r. ⌜ r ≡ timeTests (scale ruler) start end detail Outcome.Accepted ⌝ }
+{
+    let off_ruler = !(ruler.has(start) & ruler.has(end));
+    let backward = end.before(start);
+    if off_ruler {
+        return refused(Refusal::OffRuler, detail);
+    }
+    if backward {
+        return refused(Refusal::Backward, detail);
+    }
+    Outcome::Accepted
 }

@@ -7,3 +7,4 @@ pub mod Home
 pub mod Known
 pub mod Law
 pub mod Parts
+pub mod Opening

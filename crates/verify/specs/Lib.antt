@@ -1,3 +1,4 @@
 -- What the contracts inside the check say: tests over lists, and the local tests of an index.
 pub mod Passing
 pub mod Local
+pub mod Opening

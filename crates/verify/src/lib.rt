@@ -7,6 +7,7 @@ use half::words_of;
 use layout::Half;
 use layout::Outcome;
 use layout::Refusal;
+use layout::refused;
 use origin::all_known;
 use ruler::Judged;
 use ruler::Numbers;
@@ -22,6 +23,7 @@ ghost use Rattle.layout.specs.Words.{halfLength, directoryLength};
 ghost use Rattle.layout.specs.Refusals.{isIndex, checkOutcome};
 ghost use Rattle.layout.specs.Calls.{index};
 ghost use Rattle.verify.specs.Local.{halvesOk, allSlotsOk, tripsOk, locally};
+ghost use Rattle.verify.specs.Opening.{openOf, outcomeOf};
 
 mod counting;
 mod half;
@@ -98,27 +100,41 @@ pub fn is_index(ruler: Ruler, directory: &[u32], originals: &[u32], replicas: &[
     )
 }
 
+// What a call on an index finds first: an index, with the ruler made for it, or why there is none.
+pub enum Opened {
+    Index(Ruler),
+    Refused(Refusal),
+}
+
 // The tests 1, 3, 8 that each call on an index begins with.
+pub fn open(numbers: Numbers, directory: &[u32], originals: &[u32], replicas: &[u32]) -> Opened
+    ensures { λ r. ⌜ r ≡ openOf numbers (index (now (directory .entry)) (now (originals .entry)) (now (replicas .entry))) ⌝ }
+{
+    let Judged::Good(ruler) = Ruler::new(numbers) else {
+        return Opened::Refused(Refusal::RulerOutOfBounds);
+    };
+    if directory.len() != directory_length(ruler.bottom()) {
+        return Opened::Refused(Refusal::DirectoryLength);
+    }
+    if !is_index(ruler, directory, originals, replicas) {
+        return Opened::Refused(Refusal::NotAnIndex);
+    }
+    Opened::Index(ruler)
+}
+
+// The outcome of the tests alone.
+pub fn outcome_of(opened: Opened) -> Outcome
+    ensures { λ r. ⌜ r ≡ outcomeOf opened ⌝ }
+{
+    match opened {
+        Opened::Index(_) => Outcome::Accepted,
+        Opened::Refused(refusal) => refused(refusal, 0),
+    }
+}
+
+// The check of an index: those tests and no more.
 pub fn check(numbers: Numbers, directory: &[u32], originals: &[u32], replicas: &[u32]) -> Outcome
     ensures { λ r. ⌜ r ≡ checkOutcome (scaleOf numbers) (index (now (directory .entry)) (now (originals .entry)) (now (replicas .entry))) ⌝ }
 {
-    let Judged::Good(ruler) = Ruler::new(numbers) else {
-        return Outcome::Refused {
-            refusal: Refusal::RulerOutOfBounds,
-            detail: 0,
-        };
-    };
-    if directory.len() != directory_length(ruler.bottom()) {
-        return Outcome::Refused {
-            refusal: Refusal::DirectoryLength,
-            detail: 0,
-        };
-    }
-    if !is_index(ruler, directory, originals, replicas) {
-        return Outcome::Refused {
-            refusal: Refusal::NotAnIndex,
-            detail: 0,
-        };
-    }
-    Outcome::Accepted
+    outcome_of(open(numbers, directory, originals, replicas))
 }

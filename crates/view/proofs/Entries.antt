@@ -1,14 +1,13 @@
--- What each entry's answer is, by the outcome that it got: laws on the numbers of a ruler that is not judged yet, and words of any kind.
-use mathlib.Core.Path.{_≡_, sym, ap, _∙_}
-use mathlib.Core.Bool.{Bool, true}
-use mathlib.Core.List.{[]}
-use Prim.Native.Nat.{ℕ, _+_, _*_, _^_, _≤_, _<_}
+-- What each entry answers: where the index was opened, what its directory says; where it was refused, nothing.
+use mathlib.Core.Path.{_≡_, refl, sym, ap, _∙_}
+use mathlib.Core.Bool.{true, false}
+use mathlib.Core.List.{List, []}
+use Prim.Native.Nat.{ℕ, _+_, _-_, _*_, _^_, _≤_, _<_}
 use native.Mathlib.Omega.{arith}
-use lib.ListN.{length, getD}
-use Rattle.lists.proofs.Tests.{of-T}
+use lib.ListN.{length, getD, take, drop}
 use Rattle.ruler.specs.declared.Numbers.{Numbers}
-use Rattle.ruler.specs.Ruler.{deepest, mostTrips, inBounds, scaleOf}
-use Rattle.ruler.proofs.Fair.{bounds}
+use Rattle.ruler.specs.declared.Ruler.{Ruler}
+use Rattle.ruler.specs.Ruler.{Scale, deepest, mostTrips, scaleOf, scale}
 use Rattle.layout.specs.declared.Half.{Half}
 use Rattle.layout.specs.declared.Subdivision.{Subdivision}
 use Rattle.layout.specs.declared.Refusal.{Refusal}
@@ -17,96 +16,120 @@ use Rattle.layout.specs.declared.Outcome.{Outcome}
 use Rattle.layout.specs.declared.Outcome.the-variants.{Accepted, Refused}
 use Rattle.layout.specs.Words.{entryWords, Index}
 use Rattle.layout.specs.Answers.{halfOf, subdivisionNumbered, runWords, runFrom}
-use Rattle.layout.specs.Refusals.{mostPartitions, refuse, noSuchSlot, tableOf, checkOutcome, runOutcome}
-use Rattle.layout.specs.Calls.{noCensus, censusOf, runOf, runFromOf}
+use Rattle.layout.specs.Refusals.{mostPartitions, refuse, noSuchSlot, tableOf, runOutcome}
+use Rattle.layout.specs.Calls.{ifAccepted, censusOf, runOf, runFromOf}
 use Rattle.layout.proofs.Indexes.{Indexed}
 use Rattle.layout.proofs.Checked.{checked}
+use Rattle.layout.proofs.RulerCells.{deep-ruler}
 use Rattle.layout.proofs.Viewed.{census-accepted, census-refused, run-unchecked, run-checked, Runnable, of-run, run-accepted, run-refused, run-from-accepted, run-from-refused}
-use Rattle.view.specs.Directory.{slotAt, arenaOf, rowsOf, partOf, Halves, SlotIn}
-use Rattle.view.proofs.Places.{few-words, slot-fits}
-use Rattle.view.proofs.Readings.{halves, rows-read, run-read, run-from-read, run-few, slot-in}
+use Rattle.verify.specs.declared.Opened.{Opened}
+use Rattle.verify.specs.declared.Opened.the-variants.{Index as Opens, Refused as Shuts}
+use Rattle.verify.specs.Opening.{openOf}
+use Rattle.verify.proofs.Opening.{Open, opened, shut}
+use Rattle.view.specs.declared.Place.{Place}
+use Rattle.view.specs.Directory.{slotAt, arenaOf, Halves}
+use Rattle.view.specs.Views.{Readable, rowsOpened, placeAt, placeOf, slotPlace}
+use Rattle.view.proofs.Readings.{halves, rows-read, run-from-read, run-length, run-inside, run-part, run-few, slot-in}
 
--- the numbers of an index are in bounds
-good-numbers : (n : Numbers) (x : Index) → Indexed (scaleOf n) x → inBounds n ≡ true
-unfolding scaleOf
-good-numbers n x w = of-T (inBounds n) (w .table .good)
+-- ---- the census
 
-few-levels : (n : Numbers) (x : Index) → Indexed (scaleOf n) x → n .m ≤ deepest
-unfolding scaleOf
-few-levels n x w = bounds n (w .table .good) .deep
+module _ (n : Numbers) (x : Index) where
+  index-of : {r : Ruler} → Open n x r → Indexed (scale r) x
+  index-of {r} w = checked (scale r) x (w .passes)
 
--- ---- by the outcome o of the check
+  pub readable : {o : Opened} → o ≡ openOf n x → Readable o (x .directory)
+  readable e = record { halves = λ r q. let w = opened n x r e q in halves (scale r) x (index-of w) (deep-ruler r (w .good)) }
 
-module _ (n : Numbers) (x : Index) (o : Outcome) (e : o ≡ checkOutcome (scaleOf n) x) where
-  index-of : o ≡ Accepted → Indexed (scaleOf n) x
-  index-of a = checked (scaleOf n) x (sym e ∙ a)
+  pub rows-opened : (o : Opened) → o ≡ openOf n x → rowsOpened o (x .directory) ≡ censusOf (scaleOf n) x
+  unfolding rowsOpened
+  rows-opened (Opens r) e =
+      let w = opened n x r e refl in
+      rows-read (scale r) x (index-of w)
+      ∙ sym (census-accepted (scale r) x (w .passes))
+      ∙ ap (λ (k : Numbers). censusOf (scaleOf k) x) (w .numbers)
+  rows-opened (Shuts why) e = sym (census-refused (scaleOf n) x why 0 (shut n x why e refl))
 
-  pub checked-halves : o ≡ Accepted → Halves (n .m) (x .directory)
-  unfolding scaleOf
-  checked-halves a = halves (scaleOf n) x (index-of a) (few-levels n x (index-of a))
+-- ---- the place of a run
 
-  pub checked-numbers : o ≡ Accepted → inBounds n ≡ true
-  checked-numbers a = good-numbers n x (index-of a)
+no-place : (s : Scale) (x : Index) (L i d : ℕ) (why : Refusal) → runOutcome s x L i d ≡ Refused why 0
+    → placeAt (Refused why 0) 0 0 ≡ placeOf s x L i d
+no-place s x L i d why e = rw (run-from-refused s x L i d why 0 e, run-refused s x L i d why 0 e, e)
 
-  -- the census
-  pub census-given : o ≡ Accepted → rowsOf (x .directory) (n .m) ≡ censusOf (scaleOf n) x
-  unfolding scaleOf
-  census-given a = rows-read (scaleOf n) x (index-of a) ∙ sym (census-accepted (scaleOf n) x (sym e ∙ a))
+module _ (n : Numbers) (x : Index) (L i d : ℕ) where
+  pub place-shut : (why : Refusal) {o : Opened} → o ≡ openOf n x → o ≡ Shuts why → placeAt (Refused why 0) 0 0 ≡ placeOf (scaleOf n) x L i d
+  place-shut why e q = no-place (scaleOf n) x L i d why (run-unchecked (scaleOf n) x L i d why 0 (shut n x why e q))
 
-  pub census-none : (why : Refusal) (k : ℕ) → o ≡ Refused why k → noCensus ≡ censusOf (scaleOf n) x
-  census-none why k r = sym (census-refused (scaleOf n) x why k (sym e ∙ r))
+  module _ (r : Ruler) (w : Open n x r) where
+    so-for : placeOf (scale r) x L i d ≡ placeOf (scaleOf n) x L i d
+    so-for = ap (λ (k : Numbers). placeOf (scaleOf k) x L i d) (w .numbers)
 
-  -- the outcome of a run: the check's refusal, or that of the slot
-  pub run-refused-so : (L i d : ℕ) (why : Refusal) (k : ℕ) → o ≡ Refused why k → o ≡ runOutcome (scaleOf n) x L i d
-  run-refused-so L i d why k r = r ∙ sym (run-unchecked (scaleOf n) x L i d why k (sym e ∙ r))
+    pub place-nowhere : noSuchSlot (scale r) L i d ≡ true → placeAt (Refused NoSuchSlot 0) 0 0 ≡ placeOf (scaleOf n) x L i d
+    unfolding refuse
+    place-nowhere e = no-place (scale r) x L i d NoSuchSlot (run-checked (scale r) x L i d true (w .passes) (sym e)) ∙ so-for
 
-  pub run-decided : (L i d : ℕ) (b : Bool) → o ≡ Accepted → b ≡ noSuchSlot (scaleOf n) L i d → refuse b NoSuchSlot 0 Accepted
-      ≡ runOutcome (scaleOf n) x L i d
-  run-decided L i d b a t = sym (run-checked (scaleOf n) x L i d b (sym e ∙ a) t)
+    module _ (e : noSuchSlot (scale r) L i d ≡ false) where
+      accepted : runOutcome (scale r) x L i d ≡ Accepted
+      unfolding refuse
+      accepted = run-checked (scale r) x L i d false (w .passes) (sym e)
 
--- ---- by the outcome o of a run
+      told : Runnable (scale r) x L i d
+      told = of-run (scale r) x L i d accepted
 
-module _ (n : Numbers) (x : Index) (L i d : ℕ) (o : Outcome) (e : o ≡ runOutcome (scaleOf n) x L i d) where
-  pub run-none : (why : Refusal) (k : ℕ) → o ≡ Refused why k → [] ≡ runOf (scaleOf n) x L i d
-  run-none why k r = sym (run-refused (scaleOf n) x L i d why k (sym e ∙ r))
+      pub slot-named : (m : ℕ) → m ≡ scale r .m → (m ≤ deepest) × (L ≤ m) × (i < 2 ^ L)
+      slot-named m p = rw p (deep-ruler r (w .good), told .deep, told .there)
 
-  pub run-from-none : (why : Refusal) (k : ℕ) → o ≡ Refused why k → 0 ≡ runFromOf (scaleOf n) x L i d
-  run-from-none why k r = sym (run-from-refused (scaleOf n) x L i d why k (sym e ∙ r))
+      -- the subdivision c has the number d, and its slot's word stands at `at`
+      module _ (c : Subdivision) (p : c ≡ subdivisionNumbered d) (at : ℕ) (m : ℕ) (q : m ≡ scale r .m) (a : at ≡ slotAt m L i c) where
+        pub slot-there : (at + 1 < length (x .directory)) × (getD (x .directory) at 0 ≤ getD (x .directory) (at + 1) 0)
+        slot-there =
+            let t = slot-in (scale r) x (told .is-index) L i c (told .deep) (told .there) in
+            rw (a, q) (t .there-is, t .low)
 
-  -- where an accepted run ends: a word that 32 bits can tell
-  pub run-ends : o ≡ Accepted → runFromOf (scaleOf n) x L i d + length (runOf (scaleOf n) x L i d) ≤ entryWords * (mostTrips * mostPartitions)
-  run-ends a =
-      let t = of-run (scaleOf n) x L i d (sym e ∙ a) in
-      rw (run-accepted (scaleOf n) x L i d (sym e ∙ a), run-from-accepted (scaleOf n) x L i d (sym e ∙ a))
-      (run-few (scaleOf n) x (t .is-index) L i (subdivisionNumbered d) (t .deep) (t .there))
+        pub place-there : slotPlace (x .directory) at ≡ placeOf (scaleOf n) x L i d
+        unfolding slotPlace
+        place-there =
+            let s = scale r in
+            let accepts : Accepted ≡ runOutcome s x L i d = sym accepted in
+            let from : entryWords * getD (x .directory) at 0 ≡ runFromOf s x L i d =
+            rw (a, q) (run-from-read s x (told .is-index) L i c (told .deep) (told .there))
+            ∙ ap (runFrom s (tableOf s x) L i) p ∙ sym (run-from-accepted s x L i d accepted) in
+            let long : entryWords * getD (x .directory) (at + 1) 0 - entryWords * getD (x .directory) at 0 ≡ length (runOf s x L i d) =
+            rw (a, q) (run-length s x (told .is-index) L i c (told .deep) (told .there))
+            ∙ ap (λ (k : Subdivision). length (runWords s (tableOf s x) L i k)) p ∙ ap length (sym (run-accepted s x L i d accepted)) in
+            (λ j. placeAt (accepts j) (from j) (long j)) ∙ so-for
 
-  module _ (a : o ≡ Accepted) where
-    told : Runnable (scaleOf n) x L i d
-    told = of-run (scaleOf n) x L i d (sym e ∙ a)
+-- ---- a run as a part of its arena
 
-    pub slot-named : (n .m ≤ deepest) × (L ≤ n .m) × (i < 2 ^ L)
-    unfolding scaleOf
-    slot-named = (few-levels n x (told .is-index), told .deep, told .there)
+module _ (s : Scale) (x : Index) (L i d : ℕ) where
+  -- refused, it begins at 0 and has no word; accepted, it is that of a slot
+  run-cases : (P : (from : ℕ) (run : List ℕ) → Type 0) → P 0 []
+      → (Runnable s x L i d → P (runFrom s (tableOf s x) L i (subdivisionNumbered d)) (runWords s (tableOf s x) L i (subdivisionNumbered d)))
+      → P (runFromOf s x L i d) (runOf s x L i d)
+  unfolding runOf runFromOf ifAccepted
+  run-cases P none some = go (runOutcome s x L i d) refl
+    where
+      go : (o : Outcome) → runOutcome s x L i d ≡ o
+          → P (ifAccepted o (runFrom s (tableOf s x) L i (subdivisionNumbered d)) 0)
+          (ifAccepted o (runWords s (tableOf s x) L i (subdivisionNumbered d)) [])
+      go Accepted e = some (of-run s x L i d e)
+      go (Refused why k) e = none
 
-    -- the subdivision c has the number d, and its slot's word stands at `at`
-    module _ (c : Subdivision) (p : c ≡ subdivisionNumbered d) (at : ℕ) (q : at ≡ slotAt (n .m) L i c) where
-      pub few-at : at < 2 ^ 13
-      few-at = rw q (omega (arith, slot-fits (n .m) L i c (slot-named .1) (slot-named .2), few-words (n .m) (slot-named .0)))
+  abbrev run-arena : Half → List ℕ
+  run-arena h = arenaOf h (x .originals) (x .replicas)
 
-      pub part-in : (h : Half) → h ≡ halfOf c → SlotIn (x .directory) (arenaOf h (x .originals) (x .replicas)) at
-      unfolding scaleOf
-      part-in h r = rw (r, q) (slot-in (scaleOf n) x (told .is-index) L i c (told .deep) (told .there))
+  pub part-inside : (h : Half) → h ≡ halfOf (subdivisionNumbered d) → {p : Place} → p ≡ placeOf s x L i d → p .from + p .length ≤ length (run-arena h)
+  part-inside h e q =
+      rw (e, q) (run-cases (λ from run. from + length run ≤ length (run-arena (halfOf (subdivisionNumbered d)))) (omega arith)
+      (λ t. run-inside s x (t .is-index) L i (subdivisionNumbered d) (t .deep) (t .there)))
 
-      pub run-given : (h : Half) → h ≡ halfOf c → partOf (x .directory) (arenaOf h (x .originals) (x .replicas)) at ≡ runOf (scaleOf n) x L i d
-      unfolding scaleOf
-      run-given h r =
-          rw (r, q) (run-read (scaleOf n) x (told .is-index) L i c (told .deep) (told .there))
-          ∙ ap (runWords (scaleOf n) (tableOf (scaleOf n) x) L i) p
-          ∙ sym (run-accepted (scaleOf n) x L i d (sym e ∙ a))
+  pub part-is : (h : Half) → h ≡ halfOf (subdivisionNumbered d) → {p : Place} → p ≡ placeOf s x L i d
+      → take (p .length) (drop (p .from) (run-arena h)) ≡ runOf s x L i d
+  part-is h e q =
+      rw (e, q) (run-cases (λ from run. take (length run) (drop from (run-arena (halfOf (subdivisionNumbered d)))) ≡ run) refl
+      (λ t. run-part s x (t .is-index) L i (subdivisionNumbered d) (t .deep) (t .there)))
 
-      pub run-from-given : entryWords * getD (x .directory) at 0 ≡ runFromOf (scaleOf n) x L i d
-      unfolding scaleOf
-      run-from-given =
-          rw q (run-from-read (scaleOf n) x (told .is-index) L i c (told .deep) (told .there))
-          ∙ ap (runFrom (scaleOf n) (tableOf (scaleOf n) x) L i) p
-          ∙ sym (run-from-accepted (scaleOf n) x L i d (sym e ∙ a))
+  -- 32 bits tell where it ends
+  pub run-ends : runFromOf s x L i d + length (runOf s x L i d) ≤ entryWords * (mostTrips * mostPartitions)
+  run-ends =
+      run-cases (λ from run. from + length run ≤ entryWords * (mostTrips * mostPartitions)) (omega arith)
+      (λ t. run-few s x (t .is-index) L i (subdivisionNumbered d) (t .deep) (t .there))

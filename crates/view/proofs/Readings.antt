@@ -5,7 +5,7 @@ use mathlib.Core.List.{List}
 use Prim.Native.Nat.{ℕ, zero, suc, _+_, _-_, _*_, _^_, _≤_, _<_}
 use native.Mathlib.Omega.{arith}
 use lib.Dec.{leb}
-use lib.ListN.{length, getD, length-append}
+use lib.ListN.{length, getD, take, drop, length-append}
 use borrow.Author.Tests.{leb-true}
 use Rattle.lists.specs.Lists.{joined}
 use Rattle.lists.proofs.Upto.{upTo-ext}
@@ -24,7 +24,7 @@ use Rattle.layout.proofs.Rows.{words-length}
 use Rattle.layout.proofs.Indexes.{Indexed}
 use Rattle.layout.proofs.RoomAdded.{entries-most}
 use Rattle.layout.proofs.Reading.{slot-numbered, slot-inside, slots-apart, before-more, before-le, LaidFrom, next-word, slot-room, slot-part, originals-laid, replicas-laid}
-use Rattle.view.specs.Directory.{halfFrom, slotAt, arenaOf, everySecond, countOf, rowOf, rowsOf, partOf, Halves, SlotIn}
+use Rattle.view.specs.Directory.{halfFrom, slotAt, arenaOf, everySecond, countOf, rowOf, rowsOf, Halves}
 
 module _ (s : Scale) (x : Index) (w : Indexed s x) where
   -- the table of the index
@@ -67,20 +67,42 @@ module _ (s : Scale) (x : Index) (w : Indexed s x) where
     unfolding runFrom slotAt
     run-from-read = ap (λ (n : ℕ). entryWords * n) (laid (halfOf d) .word (slotNumber L i (isAft d)) (omega (arith, inside)))
 
-    pub run-read : partOf dir (arenaOf (halfOf d) (x .originals) (x .replicas)) (slotAt (s .m) L i d) ≡ runWords s trips L i d
-    unfolding partOf runWords slotAt
+    run-read : take (entryWords * getD dir (slotAt (s .m) L i d + 1) 0 - entryWords * getD dir (slotAt (s .m) L i d) 0)
+        (drop (entryWords * getD dir (slotAt (s .m) L i d) 0) (arenaOf (halfOf d) (x .originals) (x .replicas)))
+        ≡ runWords s trips L i d
+    unfolding runWords slotAt
     run-read = slot-part (laid (halfOf d)) (slotNumber L i (isAft d)) inside ∙ ap words slot-is
 
-    pub slot-in : SlotIn dir (arenaOf (halfOf d) (x .originals) (x .replicas)) (slotAt (s .m) L i d)
+    -- the words of the slot rise, and are in the arena
+    pub record SlotIn : Type 0 where
+      pub there-is : slotAt (s .m) L i d + 1 < length dir
+      pub low : getD dir (slotAt (s .m) L i d) 0 ≤ getD dir (slotAt (s .m) L i d + 1) 0
+      pub high : entryWords * getD dir (slotAt (s .m) L i d + 1) 0 ≤ length (arenaOf (halfOf d) (x .originals) (x .replicas))
+
+    pub slot-in : SlotIn
     unfolding slotAt
     slot-in =
         let h = halfOf d in
         let k = slotNumber L i (isAft d) in
         record {
-          inside = omega (arith, inside, laid h .inside);
+          there-is = omega (arith, inside, laid h .inside);
           low = omega (arith, next-word (laid h) k inside);
           high = slot-room (laid h) k inside;
         }
+
+    pub run-length : entryWords * getD dir (slotAt (s .m) L i d + 1) 0 - entryWords * getD dir (slotAt (s .m) L i d) 0
+        ≡ length (runWords s trips L i d)
+    unfolding runWords entryWords
+    run-length = omega (arith, slot-count, slot-in .low, words-length (slotTrips s d L i trips))
+
+    -- so the run is the part of the arena at its place
+    pub run-inside : runFrom s trips L i d + length (runWords s trips L i d) ≤ length (arenaOf (halfOf d) (x .originals) (x .replicas))
+    unfolding entryWords
+    run-inside = omega (arith, run-from-read, run-length, slot-in .low, slot-in .high)
+
+    pub run-part : take (length (runWords s trips L i d)) (drop (runFrom s trips L i d) (arenaOf (halfOf d) (x .originals) (x .replicas)))
+        ≡ runWords s trips L i d
+    run-part = rw (← run-length, ← run-from-read) run-read
 
     -- a run ends within the entries of the most trips in the most partitions each
     pub run-few : runFrom s trips L i d + length (runWords s trips L i d) ≤ entryWords * (mostTrips * mostPartitions)

@@ -4,7 +4,7 @@ use mathlib.Core.Bool.{cond}
 use mathlib.Core.List.{List, [], _∷_}
 use Prim.Native.Nat.{ℕ, zero, suc, _+_, _-_, _*_, _≤_, _<_}
 use lib.Dec.{leb}
-use lib.ListN.{length, getD, take, drop}
+use lib.ListN.{length, getD}
 use Rattle.ruler.specs.Ruler.{deepest}
 use Rattle.lists.specs.Lists.{upTo}
 use Rattle.layout.specs.declared.Half.{Half}
@@ -12,7 +12,7 @@ use Rattle.layout.specs.declared.Half.the-variants.{Originals, Replicas}
 use Rattle.layout.specs.declared.Subdivision.{Subdivision}
 use Rattle.layout.specs.declared.Subdivision.the-variants.{OIn, OAft, RIn, RAft}
 use Rattle.layout.specs.Stored.{partitionsAt}
-use Rattle.layout.specs.Words.{entryWords, halfLength, slotNumber}
+use Rattle.layout.specs.Words.{halfLength, slotNumber}
 use Rattle.layout.specs.Answers.{halfOf, isAft}
 
 -- "2P + 1 for originals, then 2P + 1 for replicas": the words of the directory before those of a half
@@ -44,10 +44,6 @@ rowOf dir m L = countOf dir m L OIn ∷ countOf dir m L OAft ∷ countOf dir m L
 unfoldable pub rowsOf : (directory : List ℕ) → (m : ℕ) → List (List ℕ)
 rowsOf dir m = upTo (rowOf dir m) (suc deepest)
 
--- the words of the arena from the entries before a slot up to those before the next
-unfoldable pub partOf : (directory arena : List ℕ) → (at : ℕ) → List ℕ
-partOf dir arena at = take (entryWords * getD dir (at + 1) 0 - entryWords * getD dir at 0) (drop (entryWords * getD dir at 0) arena)
-
 -- ---- what the readers of a directory ask of it
 
 -- n words from one on, and none below the one before it
@@ -59,9 +55,3 @@ pub record Rising (directory : List ℕ) (from n : ℕ) : Type 0 where
 pub record Halves (m : ℕ) (directory : List ℕ) : Type 0 where
   pub deep : m ≤ deepest
   pub rising : (h : Half) → Rising directory (halfFrom m h) (halfLength m)
-
--- the words of a slot are in the arena
-pub record SlotIn (directory arena : List ℕ) (at : ℕ) : Type 0 where
-  pub inside : at + 1 < length directory
-  pub low : getD directory at 0 ≤ getD directory (at + 1) 0
-  pub high : entryWords * getD directory (at + 1) 0 ≤ length arena

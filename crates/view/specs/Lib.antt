@@ -1,2 +1,3 @@
 -- What the contracts inside the views say of a directory.
 pub mod Directory
+pub mod Views

@@ -1,5 +1,5 @@
-// Readings of an index: the census of its levels, and the run of one subdivision. Each begins with the check of the index; once that has
-// passed, the directory alone says the rest. The number of a call and what it shows come from two entries on the same inputs.
+// Readings of an index: the census of its levels, and the run of one subdivision. Each opens the index once; then the directory alone says
+// the rest. The number of a call and what it shows come from two entries on the same inputs, or from `run_place` and `rows_opened` together.
 mod counts;
 mod slots;
 
@@ -7,18 +7,25 @@ use counts::level_rows;
 use layout::ENTRY_WORDS;
 use layout::Outcome;
 use layout::Refusal;
+use layout::refused;
 use ruler::Numbers;
+use ruler::Ruler;
 use ruler::power;
 use slots::half_of;
-use slots::half_part;
 use slots::numbered;
+use slots::part_of;
 use slots::slot_at;
+use verify::Opened;
 use verify::check;
+use verify::open;
 ghost use mathlib.Core.Path.{_≡_};
 ghost use mathlib.Core.Bool.{true};
-ghost use Rattle.ruler.specs.Ruler.{inBounds, scaleOf};
+ghost use Prim.Native.Nat.{_+_, _≤_, _<_};
+ghost use lib.ListN.{length, getD};
+ghost use Rattle.ruler.specs.Ruler.{inBounds, scaleOf, scale};
 ghost use Rattle.layout.specs.Refusals.{noSuchSlot, checkOutcome, runOutcome};
 ghost use Rattle.layout.specs.Calls.{index, censusOf, runOf, runFromOf};
+ghost use Rattle.view.specs.Views.{Readable, rowsOpened, placeAt, slotPlace, placeOf};
 
 // The rows of a census, one for each level that a ruler can have, and the counts of a row.
 pub const LEVELS: usize = 11;
@@ -39,7 +46,18 @@ pub fn census_outcome(
     check(numbers, directory, originals, replicas)
 }
 
-// The census: a row for each level, of the entries in O_in, O_aft, R_in and R_aft; all zeros where it is refused.
+// The rows of words that were opened: a row for each level, of the entries in O_in, O_aft, R_in and R_aft; all zeros where they were refused.
+pub fn rows_opened(opened: Opened, directory: &[u32]) -> [[u32; SUBDIVISIONS]; LEVELS]
+    requires { ⌜ Readable opened (now directory) ⌝ }
+    ensures { λ r. ⌜ r ≡ rowsOpened opened (now (directory .entry)) ⌝ }
+{
+    match opened {
+        Opened::Index(ruler) => level_rows(directory, ruler.bottom()),
+        Opened::Refused(_) => [[0; SUBDIVISIONS]; LEVELS],
+    }
+}
+
+// The census.
 pub fn census(
     numbers: Numbers,
     directory: &[u32],
@@ -48,28 +66,81 @@ pub fn census(
 ) -> [[u32; SUBDIVISIONS]; LEVELS]
     ensures { λ r. ⌜ r ≡ censusOf (scaleOf numbers) (index (now (directory .entry)) (now (originals .entry)) (now (replicas .entry))) ⌝ }
 {
-    let outcome = census_outcome(numbers, directory, originals, replicas);
-    match outcome {
-        Outcome::Accepted => level_rows(directory, numbers.m),
-        Outcome::Refused {
-            refusal: _,
-            detail: _,
-        } => [[0; SUBDIVISIONS]; LEVELS],
+    let opened = open(numbers, directory, originals, replicas);
+    rows_opened(opened, directory)
+}
+
+// Where a run stands: its outcome, the word of its arena at which it begins, and its words.
+pub struct Place {
+    pub outcome: Outcome,
+    pub from: usize,
+    pub length: usize,
+}
+
+// A refused run is an empty part.
+fn no_place(refusal: Refusal) -> Place
+    ensures { λ r. ⌜ r ≡ placeAt (Outcome.Refused refusal 0) 0 0 ⌝ }
+{
+    Place {
+        outcome: refused(refusal, 0),
+        from: 0,
+        length: 0,
+    }
+}
+
+// The place of a slot's entries, between two words of the directory.
+fn slot_place(directory: &[u32], at: usize) -> Place
+    requires { ⌜ (at + 1 < length (now directory)) × (getD (now directory) at 0 ≤ getD (now directory) (at + 1) 0) ⌝ }
+    ensures { λ r. ⌜ r ≡ slotPlace (now (directory .entry)) at ⌝ }
+{
+    let from = ENTRY_WORDS * directory[at] as usize;
+    let to = ENTRY_WORDS * directory[at + 1] as usize;
+    Place {
+        outcome: Outcome::Accepted,
+        from,
+        length: to - from,
     }
 }
 
 // Whether there is no such slot. The level is tested before a number is made of it.
-fn no_such_slot(numbers: Numbers, level: u32, partition: u32, subdivision: u32) -> bool
-    requires { ⌜ inBounds numbers ≡ true ⌝ }
-    ensures { λ r. ⌜ r ≡ noSuchSlot (scaleOf numbers) level partition subdivision ⌝ }
+fn no_such_slot(ruler: Ruler, level: u32, partition: u32, subdivision: u32) -> bool
+    requires { ⌜ inBounds (ruler .numbers) ≡ true ⌝ }
+    ensures { λ r. ⌜ r ≡ noSuchSlot (scale ruler) level partition subdivision ⌝ }
 {
-    if numbers.m < level {
+    if ruler.bottom() < level {
         return true;
     }
     (power(level) <= partition) | (LAST_SUBDIVISION < subdivision)
 }
 
-// Whether the run is accepted: the index first, then the slot.
+// The place of a run: the index first, then the slot.
+pub fn run_place(
+    numbers: Numbers,
+    directory: &[u32],
+    originals: &[u32],
+    replicas: &[u32],
+    level: u32,
+    partition: u32,
+    subdivision: u32,
+) -> Place
+    ensures { λ r.
+        ⌜ r ≡ placeOf (scaleOf numbers) (index (now (directory .entry)) (now (originals .entry)) (now (replicas .entry)))
+        level partition subdivision ⌝ }
+{
+    let opened = open(numbers, directory, originals, replicas);
+    match opened {
+        Opened::Index(ruler) => {
+            if no_such_slot(ruler, level, partition, subdivision) {
+                return no_place(Refusal::NoSuchSlot);
+            }
+            let d = numbered(subdivision);
+            slot_place(directory, slot_at(ruler.bottom(), level, partition, d))
+        }
+        Opened::Refused(refusal) => no_place(refusal),
+    }
+}
+
+// Whether the run is accepted.
 pub fn run_outcome(
     numbers: Numbers,
     directory: &[u32],
@@ -83,22 +154,16 @@ pub fn run_outcome(
         ⌜ r ≡ runOutcome (scaleOf numbers) (index (now (directory .entry)) (now (originals .entry)) (now (replicas .entry)))
         level partition subdivision ⌝ }
 {
-    let outcome = check(numbers, directory, originals, replicas);
-    match outcome {
-        Outcome::Accepted => {
-            if no_such_slot(numbers, level, partition, subdivision) {
-                return Outcome::Refused {
-                    refusal: Refusal::NoSuchSlot,
-                    detail: 0,
-                };
-            }
-            Outcome::Accepted
-        }
-        Outcome::Refused {
-            refusal: _,
-            detail: _,
-        } => outcome,
-    }
+    let p = run_place(
+        numbers,
+        directory,
+        originals,
+        replicas,
+        level,
+        partition,
+        subdivision,
+    );
+    p.outcome
 }
 
 // The run: a part of one of the arenas themselves, nothing copied; an empty part where it is refused.
@@ -115,7 +180,7 @@ pub fn run<'a>(
         ⌜ now r ≡ runOf (scaleOf numbers) (index (now (directory .entry)) (now (originals .entry)) (now (replicas .entry)))
         level partition subdivision ⌝ }
 {
-    let outcome = run_outcome(
+    let p = run_place(
         numbers,
         directory,
         originals,
@@ -124,17 +189,10 @@ pub fn run<'a>(
         partition,
         subdivision,
     );
-    match outcome {
-        Outcome::Accepted => {
-            let d = numbered(subdivision);
-            let at = slot_at(numbers.m, level, partition, d);
-            half_part(half_of(d), directory, originals, replicas, at)
-        }
-        Outcome::Refused {
-            refusal: _,
-            detail: _,
-        } => &originals[0..0],
-    }
+    let half = half_of(numbered(subdivision));
+    let from = p.from;
+    let to = from + p.length;
+    part_of(half, originals, replicas, from, to)
 }
 
 // The word of the arena at which the run begins; 0 where it is refused.
@@ -151,7 +209,7 @@ pub fn run_from(
         ⌜ r ≡ runFromOf (scaleOf numbers) (index (now (directory .entry)) (now (originals .entry)) (now (replicas .entry)))
         level partition subdivision ⌝ }
 {
-    let outcome = run_outcome(
+    let p = run_place(
         numbers,
         directory,
         originals,
@@ -160,14 +218,5 @@ pub fn run_from(
         partition,
         subdivision,
     );
-    match outcome {
-        Outcome::Accepted => {
-            let at = slot_at(numbers.m, level, partition, numbered(subdivision));
-            ENTRY_WORDS * directory[at] as usize
-        }
-        Outcome::Refused {
-            refusal: _,
-            detail: _,
-        } => 0,
-    }
+    p.from
 }

@@ -1,15 +1,15 @@
-// Where a slot's word stands in the directory, and the part of an arena that the slot's entries have.
-use layout::ENTRY_WORDS;
+// Where a slot's word stands in the directory, and a part of one of the arenas.
 use layout::Half;
 use layout::Subdivision;
 use ruler::Cell;
 use ruler::power;
 use store::places::slot_number;
 ghost use mathlib.Core.Path.{_≡_};
-ghost use Prim.Native.Nat.{_+_, _-_, _*_, _^_, _<_, _≤_};
+ghost use Prim.Native.Nat.{_-_, _^_, _<_, _≤_};
+ghost use lib.ListN.{length, take, drop};
 ghost use Rattle.ruler.specs.Ruler.{deepest};
 ghost use Rattle.layout.specs.Answers.{halfOf, isAft, subdivisionNumbered};
-ghost use Rattle.view.specs.Directory.{halfFrom, slotAt, arenaOf, partOf, SlotIn};
+ghost use Rattle.view.specs.Directory.{halfFrom, slotAt, arenaOf};
 
 // The subdivision with a number of 0 to 3.
 pub fn numbered(number: u32) -> Subdivision
@@ -64,29 +64,19 @@ pub fn slot_at(m: u32, level: u32, i: u32, d: Subdivision) -> usize
     half_from(m, half_of(d)) + slot_number(Cell::at(level, i), is_aft(d)) as usize
 }
 
-// The part of an arena that the entries of a slot have.
-fn slot_part<'a>(directory: &[u32], arena: &'a [u32], at: usize) -> &'a [u32]
-    requires { ⌜ SlotIn (now directory) (now arena) at ⌝ }
-    ensures { λ r. ⌜ now r ≡ partOf (now (directory .entry)) (now (arena .entry)) at ⌝ }
-{
-    let from = ENTRY_WORDS * directory[at] as usize;
-    let to = ENTRY_WORDS * directory[at + 1] as usize;
-    &arena[from..to]
-}
-
-// The same, in the arena of a half.
-pub fn half_part<'a>(
+// A part of the arena of a half.
+pub fn part_of<'a>(
     half: Half,
-    directory: &[u32],
     originals: &'a [u32],
     replicas: &'a [u32],
-    at: usize,
+    from: usize,
+    to: usize,
 ) -> &'a [u32]
-    requires { ⌜ SlotIn (now directory) (arenaOf half (now originals) (now replicas)) at ⌝ }
-    ensures { λ r. ⌜ now r ≡ partOf (now (directory .entry)) (arenaOf half (now (originals .entry)) (now (replicas .entry))) at ⌝ }
+    requires { ⌜ (from ≤ to) × (to ≤ length (arenaOf half (now originals) (now replicas))) ⌝ }
+    ensures { λ r. ⌜ now r ≡ take (to - from) (drop from (arenaOf half (now (originals .entry)) (now (replicas .entry)))) ⌝ }
 {
     match half {
-        Half::Originals => slot_part(directory, originals, at),
-        Half::Replicas => slot_part(directory, replicas, at),
+        Half::Originals => &originals[from..to],
+        Half::Replicas => &replicas[from..to],
     }
 }

@@ -15,15 +15,15 @@ use Rattle.build.proofs.build_on.Tie as tie
 judged-requires : tie.Need-judged-requires
 judged-requires c κs = search needs
 
-is-refused-requires : tie.Need-is-refused-requires
-is-refused-requires c κs = search needs
+is-accepted-requires : tie.Need-is-accepted-requires
+is-accepted-requires c κs = search needs
 
 returns : tie.Need-returns
 returns c =
     let a = c .before .before .before .before .before .before .before .args in
     left-old (scale (a .ruler)) (a .table .now) (a .directory .now) (a .originals .now) (a .replicas .now) (c .before .before .judged .result)
     (c .before .before .judged .ensures)
-    (not-true _ (sym (c .before .is-refused .ensures) ∙ c .if1 .taken))
+    (sym (c .before .is-accepted .ensures) ∙ not-true _ (c .if1 .taken))
 
 sub-fill : tie.Need-sub-fill
 sub-fill c = search needs
@@ -42,7 +42,7 @@ fill-requires c κs =
     let o = a .originals .now in
     let p = a .replicas .now in
     let s = scale (a .ruler) in
-    let fine = not-false _ (sym (c .before .before .before .is-refused .ensures) ∙ c .before .before .if1 .left) in
+    let fine = sym (c .before .before .before .is-accepted .ensures) ∙ not-false _ (c .before .before .if1 .left) in
     let w = accepted-table s (a .table .now) d o p (c .before .before .before .before .judged .result)
     (c .before .before .before .before .judged .ensures) fine in
     let h = length d / 2 in
@@ -69,7 +69,7 @@ fill-requires-2 c κs =
     let o = a .originals .now in
     let p = a .replicas .now in
     let s = scale (a .ruler) in
-    let fine = not-false _ (sym (far .before .is-refused .ensures) ∙ far .if1 .left) in
+    let fine = sym (far .before .is-accepted .ensures) ∙ not-false _ (far .if1 .left) in
     let w = accepted-table s (a .table .now) d o p (far .before .before .judged .result) (far .before .before .judged .ensures) fine in
     let h = length d / 2 in
     let made = c .before .before .before .before .before .before .fill .last .0 in
@@ -97,8 +97,7 @@ returns-2 c =
     let o = a .originals .now in
     let p = a .replicas .now in
     let s = scale (a .ruler) in
-    let fine = not-false _ (sym (far .before .before .before .before .before .before .is-refused .ensures)
-    ∙ far .before .before .before .before .before .if1 .left) in
+    let fine = sym (far .before .before .before .before .before .before .is-accepted .ensures) ∙ not-false _ (far .before .before .before .before .before .if1 .left) in
     let w = accepted-table s (a .table .now) d o p (far .before .before .before .before .before .before .before .judged .result)
     (far .before .before .before .before .before .before .before .judged .ensures) fine in
     let h = length d / 2 in
@@ -116,7 +115,7 @@ build-on-spec =
     tie.close
     (tie.spec
     judged-requires
-    is-refused-requires
+    is-accepted-requires
     returns
     sub-fill
     part-fill-start

@@ -47,8 +47,8 @@ rows-outcome-requires c κs =
     let a = g .args in
     (g .pre, few-rows (a .ruler) (a .table .now) (a .directory) (a .originals) (a .replicas) (g .pre) (c .before .before .before .if1 .left))
 
-is-refused-requires : tie.Need-is-refused-requires
-is-refused-requires c κs = search needs
+is-accepted-requires : tie.Need-is-accepted-requires
+is-accepted-requires c κs = search needs
 
 returns-3 : tie.Need-returns-3
 unfolding entryWords badSize
@@ -57,7 +57,7 @@ returns-3 c =
     let a = g .args in
     let long = c .before .before .before .if2 .left ∙ c .before .before .before .before .directory-length .ensures
     ∙ ap directoryLength (c .before .before .before .before .before .bottom .ensures) in
-    let bad = not-true _ (sym (c .before .is-refused .ensures) ∙ c .if3 .taken) in
+    let bad = sym (c .before .is-accepted .ensures) ∙ not-true _ (c .if3 .taken) in
     says-bad (a .ruler) (a .table .now) (a .directory) (a .originals) (a .replicas) (g .pre)
     (c .before .before .before .before .before .before .if1 .left) long _ (c .before .before .rows-outcome .ensures) bad
 
@@ -68,7 +68,7 @@ lacks-room-requires c κs =
     let a = g .args in
     let long = c .before .before .before .if2 .left ∙ c .before .before .before .before .directory-length .ensures
     ∙ ap directoryLength (c .before .before .before .before .before .bottom .ensures) in
-    let fine = not-false _ (sym (c .before .is-refused .ensures) ∙ c .if3 .left) in
+    let fine = sym (c .before .is-accepted .ensures) ∙ not-false _ (c .if3 .left) in
     tested (a .ruler) (a .table .now) (a .directory) (a .originals) (a .replicas) (g .pre)
     (c .before .before .before .before .before .before .if1 .left) long _ (c .before .before .rows-outcome .ensures) fine
 
@@ -84,7 +84,7 @@ returns-4 c =
     let long = c .before .before .before .before .before .before .if2 .left
     ∙ c .before .before .before .before .before .before .before .directory-length .ensures
     ∙ ap directoryLength (c .before .before .before .before .before .before .before .before .bottom .ensures) in
-    let fine = not-false _ (sym (c .before .before .before .before .is-refused .ensures) ∙ c .before .before .before .if3 .left) in
+    let fine = sym (c .before .before .before .before .is-accepted .ensures) ∙ not-false _ (c .before .before .before .if3 .left) in
     c .refused3 .ensures ∙ says-7 (a .ruler) (a .table .now) (a .directory) (a .originals) (a .replicas) (g .pre) (far .if1 .left) long _
     (c .before .before .before .before .before .rows-outcome .ensures) fine
     (sym (c .before .before .lacks-room .ensures) ∙ c .before .if4 .taken)
@@ -96,7 +96,7 @@ returns-5 c =
     let a = g .args in
     let long = c .before .before .before .before .before .if2 .left ∙ c .before .before .before .before .before .before .directory-length .ensures
     ∙ ap directoryLength (c .before .before .before .before .before .before .before .bottom .ensures) in
-    let fine = not-false _ (sym (c .before .before .before .is-refused .ensures) ∙ c .before .before .if3 .left) in
+    let fine = sym (c .before .before .before .is-accepted .ensures) ∙ not-false _ (c .before .before .if3 .left) in
     says-0 (a .ruler) (a .table .now) (a .directory) (a .originals) (a .replicas) (g .pre)
     (c .before .before .before .before .before .before .before .before .if1 .left) long _
     (c .before .before .before .before .rows-outcome .ensures) fine
@@ -113,7 +113,7 @@ judged-spec =
     refused-requires-2
     returns-2
     rows-outcome-requires
-    is-refused-requires
+    is-accepted-requires
     returns-3
     lacks-room-requires
     refused-requires-3

@@ -1,21 +1,34 @@
--- What the check refuses is refused; the rest is the edit of words that are an index.
-use mathlib.Core.Path.{sym, _∙_}
-use borrow.Author.Tests.{not-true}
+-- What the opening refuses is refused; the rest is the edit of words that are an index.
+use mathlib.Core.Path.{ap, _∙_}
+use Rattle.ruler.specs.declared.Numbers.{Numbers}
 use Rattle.ruler.specs.Ruler.{scaleOf}
-use Rattle.ruler.proofs.Judging.{judged-good}
-use Rattle.layout.specs.Calls.{index}
-use Rattle.edit.proofs.Chained.{add-unchecked}
-use Rattle.edit.proofs.Opening.{not-out, opening}
-use native.Mathlib.Omega.{arith}
+use Rattle.layout.specs.declared.Outcome.{Outcome}
+use Rattle.layout.specs.Calls.{index, after, addOf}
+use Rattle.verify.proofs.Opening.{opened}
+use Rattle.edit.proofs.Chained.{add-shut}
 use borrow.Author.Needs.{needs}
 use Rattle.edit.proofs.add.Statement.{statement}
 use Rattle.edit.proofs.add.Tie as tie
 
-check-requires : tie.Need-check-requires
-check-requires c κs = search needs
+open-requires : tie.Need-open-requires
+open-requires c κs = search needs
 
-is-accepted-requires : tie.Need-is-accepted-requires
-is-accepted-requires c κs = search needs
+enum-known-opened : tie.Need-enum-known-opened
+enum-known-opened c = search needs
+
+add-checked-requires : tie.Need-add-checked-requires
+add-checked-requires c κs =
+    let a = c .before .before .before .before .before .before .before .before .before .before .before .before .before .args in
+    let x = index (a .directory .now) (a .originals .now) (a .replicas .now) in
+    let is = c .before .before .before .before .opened .given in
+    let w = opened (a .numbers) x (is .0 .0) (c .before .before .before .before .before .before .«open» .ensures) (is .1) in
+    (w .good, w .passes)
+
+enum-known-opened-2 : tie.Need-enum-known-opened-2
+enum-known-opened-2 c = search needs
+
+refused-requires : tie.Need-refused-requires
+refused-requires c κs = search needs
 
 same-length : tie.Need-same-length
 same-length c = search needs
@@ -28,22 +41,12 @@ same-length-3 c = search needs
 
 returns : tie.Need-returns
 returns c =
-    let a = c .before .before .before .before .before .before .before .before .before .args in
+    let far = c .before .before .before .before .before .before in
+    let a = far .before .before .before .before .before .before .before .before .before .before .before .before .before .before .args in
     let x = index (a .directory .now) (a .originals .now) (a .replicas .now) in
-    let not-taken = sym (c .before .is-accepted .ensures) ∙ not-true _ (c .if1 .taken) in
-    add-unchecked (scaleOf (a .numbers)) x (a .t) _ (c .before .before .check .ensures) not-taken
-
-new-requires : tie.Need-new-requires
-new-requires c κs = search needs
-
-enum-known-ruler : tie.Need-enum-known-ruler
-enum-known-ruler c = search needs
-
-enum-told : tie.Need-enum-told
-enum-told c = search needs
-
-refused-requires : tie.Need-refused-requires
-refused-requires c κs = search needs
+    let is = far .before .before .before .before .before .opened .given in
+    let w = opened (a .numbers) x (is .0 .0) (far .before .before .before .before .before .before .before .«open» .ensures) (is .1) in
+    far .add-checked .ensures ∙ ap (λ (n : Numbers). addOf (scaleOf n) x (a .t)) (w .numbers)
 
 same-length-4 : tie.Need-same-length-4
 same-length-4 c = search needs
@@ -56,58 +59,25 @@ same-length-6 c = search needs
 
 returns-2 : tie.Need-returns-2
 returns-2 c =
-    let a = c .before .before .before .before .before .before .before .before .before .before .before .before .before .args in
+    let a = c .before .before .before .before .before .before .before .before .before .before .before .args in
     let x = index (a .directory .now) (a .originals .now) (a .replicas .now) in
-    not-out (a .numbers) x (c .before .before .before .before .before .before .check .ensures)
-    (c .before .before .before .before .before .is-accepted .ensures) (c .before .before .before .before .if1 .left)
-    (c .before .before .before .new .ensures) (c .before .enum-told .given .1)
-
-add-checked-requires : tie.Need-add-checked-requires
-add-checked-requires c κs =
-    let a = c .before .before .before .before .before .before .before .before .before .before .before .before .before .before .before .before .args in
-    let x = index (a .directory .now) (a .originals .now) (a .replicas .now) in
-    let ruler = c .before .before .before .before .ruler .given in
-    opening (a .numbers) x (c .before .before .before .before .before .before .before .before .before .check .ensures)
-    (c .before .before .before .before .before .before .before .before .is-accepted .ensures)
-    (c .before .before .before .before .before .before .before .if1 .left) (ruler .0 .0)
-    (c .before .before .before .before .before .before .new .ensures) (ruler .1)
-
-same-length-7 : tie.Need-same-length-7
-same-length-7 c = search needs
-
-same-length-8 : tie.Need-same-length-8
-same-length-8 c = search needs
-
-same-length-9 : tie.Need-same-length-9
-same-length-9 c = search needs
-
-returns-3 : tie.Need-returns-3
-returns-3 c =
-    let ruler = c .before .before .before .before .before .before .before .before .before .before .before .ruler .given in
-    let made = judged-good _ (ruler .0 .0)
-    (sym (c .before .before .before .before .before .before .before .before .before .before .before .before .before .new .ensures) ∙ ruler .1) in
-    rw (made .numbers) at (c .before .before .before .before .before .before .add-checked .ensures)
+    ap (λ (o : Outcome). after o x) (c .refused .ensures)
+    ∙ add-shut (a .numbers) x (a .t) _ (c .before .before .before .before .«open» .ensures) (c .before .before .opened2 .given .1)
 
 pub add-spec : {M : Type 1} → statement M
 add-spec =
     tie.close
     (tie.spec
-    check-requires
-    is-accepted-requires
+    open-requires
+    enum-known-opened
+    add-checked-requires
+    enum-known-opened-2
+    refused-requires
     same-length
     same-length-2
     same-length-3
     returns
-    new-requires
-    enum-known-ruler
-    enum-told
-    refused-requires
     same-length-4
     same-length-5
     same-length-6
-    returns-2
-    add-checked-requires
-    same-length-7
-    same-length-8
-    same-length-9
-    returns-3)
+    returns-2)

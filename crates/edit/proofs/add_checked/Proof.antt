@@ -3,7 +3,8 @@ use mathlib.Core.Path.{sym, _∙_}
 use borrow.Author.Tests.{not-true, not-false}
 use Rattle.ruler.specs.Ruler.{scale}
 use Rattle.layout.specs.Calls.{index}
-use Rattle.edit.proofs.Chained.{is-accepted, add-refused, add-accepted}
+use Rattle.layout.proofs.Links.{is-accepted}
+use Rattle.edit.proofs.Chained.{add-refused, add-accepted}
 use native.Mathlib.Omega.{arith}
 use borrow.Author.Needs.{needs}
 use Rattle.edit.proofs.add_checked.Statement.{statement}

@@ -1,82 +1,67 @@
--- An accepted run is the part of the arena that the directory names; a refused one is empty.
-use mathlib.Core.Path.{_∙_}
+-- The part of the arena at the place of the run.
+use mathlib.Core.Path.{_≡_, ap, _∙_}
+use Prim.Native.Nat.{ℕ, _+_, _-_}
+use lib.ListN.{take, drop}
+use Rattle.ruler.specs.Ruler.{scaleOf}
+use Rattle.layout.specs.Words.{entryWords}
+use Rattle.layout.specs.Answers.{halfOf}
 use Rattle.layout.specs.Calls.{index}
-use Rattle.view.proofs.Entries.{slot-named, part-in, run-given, run-none}
+use Rattle.view.specs.declared.Place.{Place}
+use Rattle.view.proofs.Entries.{part-inside, part-is, run-ends}
+use native.Mathlib.Omega.{arith}
 use borrow.Author.Needs.{needs}
 use Rattle.view.proofs.run.Statement.{statement}
 use Rattle.view.proofs.run.Tie as tie
 
-run-outcome-requires : tie.Need-run-outcome-requires
-run-outcome-requires c κs = search needs
-
-enum-told : tie.Need-enum-told
-enum-told c = search needs
+run-place-requires : tie.Need-run-place-requires
+run-place-requires c κs = search needs
 
 numbered-requires : tie.Need-numbered-requires
 numbered-requires c κs = search needs
 
-slot-at-requires : tie.Need-slot-at-requires
-slot-at-requires c κs =
-    let a = c .before .before .before .before .before .before .before .args in
-    let x = index (a .directory .now) (a .originals .now) (a .replicas .now) in
-    let o = c .before .before .before .run-outcome .ensures in
-    slot-named (a .numbers) x (a .level) (a .partition) (a .subdivision) _ o (c .before .enum-told .given .1)
-
 half-of-requires : tie.Need-half-of-requires
 half-of-requires c κs = search needs
 
-half-part-requires : tie.Need-half-part-requires
-half-part-requires c κs =
-    let a = c .before .before .before .before .before .before .before .before .before .args in
+add-to : tie.Need-add-to
+unfolding entryWords
+add-to c =
+    let a = c .before .before .before .before .before .before .before .args in
     let x = index (a .directory .now) (a .originals .now) (a .replicas .now) in
-    let o = c .before .before .before .before .before .run-outcome .ensures in
-    let accepted = c .before .before .before .enum-told .given .1 in
-    let d = c .before .before .numbered .ensures in
-    let at = c .before .slot-at .ensures in
-    part-in (a .numbers) x (a .level) (a .partition) (a .subdivision) _ o accepted _ d _ at _ (c .half-of .ensures)
+    let p = c .before .before .before .run-place .ensures in
+    omega (
+      arith,
+      ap (λ (k : Place). k .from) p,
+      ap (λ (k : Place). k .length) p,
+      run-ends (scaleOf (a .numbers)) x (a .level) (a .partition) (a .subdivision),
+    )
 
-enum-told-2 : tie.Need-enum-told-2
-enum-told-2 c = search needs
-
-sub-result : tie.Need-sub-result
-sub-result c = search needs
-
-part-result-start : tie.Need-part-result-start
-part-result-start c = search needs
-
-part-result-end : tie.Need-part-result-end
-part-result-end c = search needs
+part-of-requires : tie.Need-part-of-requires
+part-of-requires c κs =
+    let a = c .before .before .before .before .before .before .before .args in
+    let x = index (a .directory .now) (a .originals .now) (a .replicas .now) in
+    let s = scaleOf (a .numbers) in
+    let p = c .before .before .before .run-place .ensures in
+    let half = c .before .half-of .ensures ∙ ap halfOf (c .before .before .numbered .ensures) in
+    (omega arith, part-inside s x (a .level) (a .partition) (a .subdivision) _ half p)
 
 returns : tie.Need-returns
 returns c =
-    let a = c .before .before .before .before .before .before .before .before .before .before .args in
+    let a = c .before .before .before .before .before .before .before .before .args in
     let x = index (a .directory .now) (a .originals .now) (a .replicas .now) in
-    let o = c .before .before .before .before .before .before .run-outcome .ensures in
-    let accepted = c .before .before .before .before .enum-told .given .1 in
-    let d = c .before .before .before .numbered .ensures in
-    let at = c .before .before .slot-at .ensures in
-    c .half-part .ensures ∙ run-given (a .numbers) x (a .level) (a .partition) (a .subdivision) _ o accepted _ d _ at _ (c .before .half-of .ensures)
-
-returns-2 : tie.Need-returns-2
-returns-2 c =
-    let a = c .before .before .before .before .before .before .before .args in
-    let x = index (a .directory .now) (a .originals .now) (a .replicas .now) in
-    let o = c .before .before .before .run-outcome .ensures in
-    run-none (a .numbers) x (a .level) (a .partition) (a .subdivision) _ o _ _ (c .before .enum-told2 .given .1)
+    let s = scaleOf (a .numbers) in
+    let p = c .before .before .before .before .run-place .ensures in
+    let half = c .before .before .half-of .ensures ∙ ap halfOf (c .before .before .before .numbered .ensures) in
+    let place = c .before .before .before .before .run-place .result in
+    let words : place .from + place .length - place .from ≡ place .length = omega arith in
+    rw words at (c .part-of .ensures) ∙ part-is s x (a .level) (a .partition) (a .subdivision) _ half p
 
 pub run-spec : {M : Type 1} → statement M
 run-spec =
     tie.close
     (tie.spec
-    run-outcome-requires
-    enum-told
+    run-place-requires
     numbered-requires
-    slot-at-requires
     half-of-requires
-    half-part-requires
-    enum-told-2
-    sub-result
-    part-result-start
-    part-result-end
-    returns
-    returns-2)
+    add-to
+    part-of-requires
+    returns)

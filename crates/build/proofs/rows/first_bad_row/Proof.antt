@@ -33,8 +33,8 @@ row-outcome-requires c κs =
     let g = c .before .before .before in
     (g .pre .0, ((omega arith, g .pre .1 .0), g .pre .1 .1))
 
-is-refused-requires : tie.Need-is-refused-requires Inv-loop μ-loop
-is-refused-requires c κs = omega arith
+is-accepted-requires : tie.Need-is-accepted-requires Inv-loop μ-loop
+is-accepted-requires c κs = omega arith
 
 returns : tie.Need-returns Inv-loop μ-loop
 unfolding entryWords
@@ -43,7 +43,7 @@ returns c =
     let k = c .before .before .before .before .loop in
     let s = scale (g .args .ruler) in
     let found = c .before .before .row-outcome .result in
-    let bad = not-true _ (sym (c .before .is-refused .ensures) ∙ c .if1 .taken) in
+    let bad = sym (c .before .is-accepted .ensures) ∙ not-true _ (c .if1 .taken) in
     let rest = firstBadRow s (k .i + 1) (rowsBack (g .args .table .now) (k .i + 1)) (drop (k .i + 1) (rows (g .args .table .now))) Accepted in
     sym (then-refused found rest bad) ∙ ap (λ (o : Outcome). andThen o rest) (c .before .before .row-outcome .ensures)
     ∙ sym (rows-turn s (g .args .table .now) (k .i) (omega arith)) ∙ k .inv .1
@@ -61,7 +61,7 @@ loop-again c =
     let k = c .before .before .before .before .loop in
     let s = scale (g .args .ruler) in
     let found = c .before .before .row-outcome .result in
-    let fine = not-false _ (sym (c .before .is-refused .ensures) ∙ c .if1 .left) in
+    let fine = sym (c .before .is-accepted .ensures) ∙ not-false _ (c .if1 .left) in
     let rest = firstBadRow s (k .i + 1) (rowsBack (g .args .table .now) (k .i + 1)) (drop (k .i + 1) (rows (g .args .table .now))) Accepted in (
       omega arith,
       sym (then-accepted found rest fine) ∙ ap (λ (o : Outcome). andThen o rest) (c .before .before .row-outcome .ensures)
@@ -83,7 +83,7 @@ first-bad-row-spec =
     μ-loop
     loop-holds
     row-outcome-requires
-    is-refused-requires
+    is-accepted-requires
     returns
     add-i
     loop-less

@@ -1,12 +1,12 @@
--- The part between two words of the directory.
+-- Between two words of the directory.
 use mathlib.Core.Path.{refl}
 use Prim.Native.Nat.{_+_}
 use Rattle.layout.specs.Words.{entryWords}
-use Rattle.view.specs.Directory.{partOf}
+use Rattle.view.specs.Views.{slotPlace}
 use native.Mathlib.Omega.{arith}
 use borrow.Author.Needs.{needs}
-use Rattle.view.proofs.slots.slot_part.Statement.{statement}
-use Rattle.view.proofs.slots.slot_part.Tie as tie
+use Rattle.view.proofs.slot_place.Statement.{statement}
+use Rattle.view.proofs.slot_place.Tie as tie
 
 mul-from : tie.Need-mul-from
 mul-from c = search needs
@@ -18,8 +18,7 @@ cast-from : tie.Need-cast-from
 cast-from c = omega (arith, c .shared-slice-known .given (c .before .args .at))
 
 mul-from-2 : tie.Need-mul-from-2
-unfolding entryWords
-mul-from-2 c = omega arith
+mul-from-2 c = omega (arith, c .shared-slice-known .given (c .before .args .at))
 
 add-to : tie.Need-add-to
 add-to c = search needs
@@ -34,31 +33,17 @@ cast-to : tie.Need-cast-to
 cast-to c = omega (arith, c .shared-slice-known2 .given (c .before .before .args .at + 1))
 
 mul-to-2 : tie.Need-mul-to-2
-unfolding entryWords
-mul-to-2 c = omega arith
+mul-to-2 c = omega (arith, c .shared-slice-known2 .given (c .before .before .args .at + 1))
 
-mul-result : tie.Need-mul-result
-unfolding entryWords
-mul-result c = omega arith
-
-sub-result : tie.Need-sub-result
-unfolding entryWords
-sub-result c = omega arith
-
-part-result-start : tie.Need-part-result-start
-unfolding entryWords
-part-result-start c = omega arith
-
-part-result-end : tie.Need-part-result-end
-unfolding entryWords
-part-result-end c = omega arith
+sub-t5 : tie.Need-sub-t5
+sub-t5 c = search needs
 
 returns : tie.Need-returns
-unfolding entryWords partOf
+unfolding entryWords slotPlace
 returns c = refl
 
-pub slot-part-spec : {M : Type 1} → statement M
-slot-part-spec =
+pub slot-place-spec : {M : Type 1} → statement M
+slot-place-spec =
     tie.close
     (tie.spec
     mul-from
@@ -70,8 +55,5 @@ slot-part-spec =
     shared-slice-read-to
     cast-to
     mul-to-2
-    mul-result
-    sub-result
-    part-result-start
-    part-result-end
+    sub-t5
     returns)

@@ -1,9 +1,9 @@
 -- Each outcome has its line of `isAccepted`.
 use Rattle.layout.specs.Refusals.{isAccepted}
 use native.Mathlib.Omega.{arith}
 use borrow.Author.Needs.{needs}
-use Rattle.edit.proofs.tests.is_accepted.Statement.{statement}
-use Rattle.edit.proofs.tests.is_accepted.Tie as tie
+use Rattle.layout.proofs.is_accepted.Statement.{statement}
+use Rattle.layout.proofs.is_accepted.Tie as tie
 
 enum-told : tie.Need-enum-told
 enum-told c = search needs
