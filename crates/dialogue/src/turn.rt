@@ -2,7 +2,7 @@
 use crate::Desk;
 use crate::Turned;
 use crate::reply;
-use layout::Outcome;
+use layout::is_accepted;
 use ruler::Numbers;
 use ruler::Time;
 use store::counting::directory_length;
@@ -15,7 +15,6 @@ ghost use mathlib.Core.List.{List};
 ghost use Prim.Native.Nat.{ℕ, _≤_};
 ghost use lib.ListN.{length};
 ghost use Rattle.layout.specs.Words.{directoryLength, Index};
-ghost use Rattle.layout.specs.Refusals.{isAccepted};
 ghost use Rattle.layout.specs.Calls.{index};
 ghost use Rattle.text.specs.declared.Command.the-variants.{Ruler, Add, Remove, Ask};
 ghost use Rattle.text.specs.Command.{commandOf};
@@ -24,18 +23,6 @@ ghost use Rattle.dialogue.specs.Session.{deepestHere, state, Done, badLi
 
 // The deepest level that a D line may name.
 const DEEPEST_HERE: u32 = 8;
-
-fn is_accepted(outcome: Outcome) -> bool
-    ensures { λ r. ⌜ r ≡ isAccepted outcome ⌝ }
-{
-    match outcome {
-        Outcome::Accepted => true,
-        Outcome::Refused {
-            refusal: _,
-            detail: _,
-        } => false,
-    }
-}
 
 // A turn after which the next line is read.
 fn goes_on(desk: Desk, written: usize) -> Turned

@@ -1,7 +1,6 @@
 // What other languages link: one C function for each public entry, over numbers and slices. Each takes the entry's outcome apart into the
 // numbers of document 01, and does nothing else.
 use layout::Outcome;
-use layout::Refusal;
 use ruler::Numbers;
 use ruler::Time;
 use trip::Trip;
@@ -10,11 +9,8 @@ use view::LEVELS;
 use view::SUBDIVISIONS;
 ghost use mathlib.Core.Path.{_≡_};
 ghost use lib.ListN.{length};
-ghost use Rattle.ruler.specs.Ruler.{scaleOf};
-ghost use Rattle.layout.specs.declared.Outcome.the-variants.{Accepted};
-ghost use Rattle.layout.specs.Refusals.{refusalNumber, runOutcome};
-ghost use Rattle.layout.specs.Calls.{index};
-ghost use Rattle.export.specs.Said.{saidOf, left, told, buildSaid, addSaid, removeSaid, checkSaid, askSaid, counted, censusSaid, arenaOf, numbers, shown, runSaid};
+ghost use Rattle.layout.specs.Calls.{index, ifAccepted};
+ghost use Rattle.export.specs.Said.{saidOf, left, told, buildSaid, addSaid, removeSaid, checkSaid, askSaid, counted, censusSaid, arenaOf, runSaid};
 
 // The number of refusal, or 0, and its detail.
 #[repr(C)]
@@ -43,11 +39,11 @@ pub struct Shown {
 // The first subdivision whose runs are parts of the replicas.
 const FIRST_OF_REPLICAS: u32 = 2;
 
-// The arena of a subdivision: 0 the originals, 1 the replicas.
-fn arena_of(subdivision: u32) -> u32
-    ensures { λ r. ⌜ r ≡ arenaOf subdivision ⌝ }
+// The arena of a run: 0 the originals, 1 the replicas. A refused run is an empty part of the originals.
+fn arena_of(outcome: Outcome, subdivision: u32) -> u32
+    ensures { λ r. ⌜ r ≡ ifAccepted outcome (arenaOf subdivision) 0 ⌝ }
 {
-    if subdivision < FIRST_OF_REPLICAS {
+    if !layout::is_accepted(outcome) | (subdivision < FIRST_OF_REPLICAS) {
         return 0;
     }
     1
@@ -182,63 +178,10 @@ pub extern "C" fn kheyambo_census(
         ⌜ counted r (now (counts .exit))
         ≡ censusSaid w m (index (now (directory .entry)) (now (originals .entry)) (now (replicas .entry))) ⌝ }
 {
-    let outcome = view::census_outcome(Numbers { w, m }, directory, originals, replicas);
-    let rows = view::census(Numbers { w, m }, directory, originals, replicas);
+    let opened = verify::open(Numbers { w, m }, directory, originals, replicas);
+    let rows = view::rows_opened(opened, directory);
     *counts = rows;
-    in_numbers(outcome)
-}
-
-// Where an accepted run stands in the arenas.
-fn run_place<'a>(
-    w: u32,
-    m: u32,
-    level: u32,
-    partition: u32,
-    subdivision: u32,
-    directory: &[u32],
-    originals: &'a [u32],
-    replicas: &'a [u32],
-) -> Shown
-    requires { ⌜ runOutcome (scaleOf (numbers w m)) (index (now directory) (now originals) (now replicas)) level partition subdivision ≡ Accepted ⌝ }
-    ensures { λ r. ⌜ r ≡ runSaid w m level partition subdivision (index (now (directory .entry)) (now (originals .entry)) (now (replicas .entry))) ⌝ }
-{
-    let offset = view::run_from(
-        Numbers { w, m },
-        directory,
-        originals,
-        replicas,
-        level,
-        partition,
-        subdivision,
-    ) as u32;
-    let part = view::run(
-        Numbers { w, m },
-        directory,
-        originals,
-        replicas,
-        level,
-        partition,
-        subdivision,
-    );
-    let length = part.len() as u32;
-    Shown {
-        number: 0,
-        arena: arena_of(subdivision),
-        offset,
-        length,
-    }
-}
-
-// A refused run: an empty part of the originals.
-fn refused_run(refusal: Refusal) -> Shown
-    ensures { λ r. ⌜ r ≡ shown (refusalNumber refusal) 0 0 0 ⌝ }
-{
-    Shown {
-        number: layout::refusal_number(refusal),
-        arena: 0,
-        offset: 0,
-        length: 0,
-    }
+    in_numbers(verify::outcome_of(opened))
 }
 
 // A run: where it stands in the arenas, and nothing copied.
@@ -255,7 +198,7 @@ pub extern "C" fn kheyambo_run<'a>(
 ) -> Shown
     ensures { λ r. ⌜ r ≡ runSaid w m level partition subdivision (index (now (directory .entry)) (now (originals .entry)) (now (replicas .entry))) ⌝ }
 {
-    let outcome = view::run_outcome(
+    let place = view::run_place(
         Numbers { w, m },
         directory,
         originals,
@@ -264,17 +207,11 @@ pub extern "C" fn kheyambo_run<'a>(
         partition,
         subdivision,
     );
-    match outcome {
-        Outcome::Accepted => run_place(
-            w,
-            m,
-            level,
-            partition,
-            subdivision,
-            directory,
-            originals,
-            replicas,
-        ),
-        Outcome::Refused { refusal, detail: _ } => refused_run(refusal),
+    let outcome = place.outcome;
+    Shown {
+        number: layout::number_of(outcome),
+        arena: arena_of(outcome, subdivision),
+        offset: place.from as u32,
+        length: place.length as u32,
     }
 }

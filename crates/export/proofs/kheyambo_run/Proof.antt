@@ -1,45 +1,40 @@
--- Where an accepted run stands, or the number of the refusal.
-use mathlib.Core.Path.{sym, _∙_}
+-- The place of the run, in numbers.
 use Rattle.layout.specs.Calls.{index}
-use Rattle.export.proofs.Thin.{run-not-shown}
+use Rattle.export.proofs.Thin.{run-small, run-shown}
 use native.Mathlib.Omega.{arith}
 use borrow.Author.Needs.{needs}
 use Rattle.export.proofs.kheyambo_run.Statement.{statement}
 use Rattle.export.proofs.kheyambo_run.Tie as tie
 
-run-outcome-requires : tie.Need-run-outcome-requires
-run-outcome-requires c κs = search needs
-
-enum-told : tie.Need-enum-told
-enum-told c = search needs
-
 run-place-requires : tie.Need-run-place-requires
-run-place-requires c κs = sym (c .before .before .run-outcome .ensures) ∙ c .enum-told .given .1
+run-place-requires c κs = search needs
 
-enum-known-outcome : tie.Need-enum-known-outcome
-enum-known-outcome c = search needs
+number-of-requires : tie.Need-number-of-requires
+number-of-requires c κs = search needs
 
-refused-run-requires : tie.Need-refused-run-requires
-refused-run-requires c κs = search needs
+arena-of-requires : tie.Need-arena-of-requires
+arena-of-requires c κs = search needs
 
-returns : tie.Need-returns
-returns c = c .run-place .ensures
+cast-t14 : tie.Need-cast-t14
+cast-t14 c =
+    let a = c .before .before .before .before .before .before .before .args in
+    let x = index (a .directory .now) (a .originals .now) (a .replicas .now) in
+    omega (arith, run-small (a .w) (a .m) (a .level) (a .partition) (a .subdivision) x (c .before .before .before .run-place .ensures) .0)
 
-returns-2 : tie.Need-returns-2
-returns-2 c =
+cast-t15 : tie.Need-cast-t15
+cast-t15 c =
     let a = c .before .before .before .before .before .before .before .before .args in
     let x = index (a .directory .now) (a .originals .now) (a .replicas .now) in
-    let refused = sym (c .before .before .before .before .run-outcome .ensures) ∙ c .before .before .outcome .given .1 in
-    c .refused-run .ensures ∙ run-not-shown (a .w) (a .m) (a .level) (a .partition) (a .subdivision) x _ _ refused
+    omega (arith, run-small (a .w) (a .m) (a .level) (a .partition) (a .subdivision) x (c .before .before .before .before .run-place .ensures) .1)
+
+returns : tie.Need-returns
+returns c =
+    let a = c .before .before .before .before .before .before .before .before .args in
+    let x = index (a .directory .now) (a .originals .now) (a .replicas .now) in
+    run-shown (a .w) (a .m) (a .level) (a .partition) (a .subdivision) x (c .before .before .before .before .run-place .ensures)
+    (c .before .before .before .number-of .ensures) (c .before .before .arena-of .ensures)
 
 pub kheyambo-run-spec : {M : Type 1} → statement M
 kheyambo-run-spec =
     tie.close
-    (tie.spec
-    run-outcome-requires
-    enum-told
-    run-place-requires
-    enum-known-outcome
-    refused-run-requires
-    returns
-    returns-2)
+    (tie.spec run-place-requires number-of-requires arena-of-requires cast-t14 cast-t15 returns)
