@@ -149,12 +149,12 @@ kheyambo_told kheyambo_ask(uint32_t w, uint32_t m, uint32_t code, uint32_t start
                            size_t directory_words, const uint32_t *originals, size_t originals_words,
                            const uint32_t *replicas, size_t replicas_words, uint32_t *answers, size_t answers_words);
 
-/* Counts the entries of each subdivision at each level; all zeros on a refusal. Refuses 1, 3, 8. Cost: two checks. */
+/* Counts the entries of each subdivision at each level; all zeros on a refusal. Refuses 1, 3, 8. Cost: a check, and a pass over the directory. */
 kheyambo_said kheyambo_census(uint32_t w, uint32_t m, const uint32_t *directory, size_t directory_words,
                               const uint32_t *originals, size_t originals_words, const uint32_t *replicas,
                               size_t replicas_words, kheyambo_counts *counts);
 
-/* Where the entries of one subdivision of a partition stand. Refuses 1, 3, 8, 12. Cost: three checks. */
+/* Where the entries of one subdivision of a partition stand. Refuses 1, 3, 8, 12. Cost: a check. */
 kheyambo_shown kheyambo_run(uint32_t w, uint32_t m, uint32_t level, uint32_t partition, uint32_t subdivision,
                             const uint32_t *directory, size_t directory_words, const uint32_t *originals,
                             size_t originals_words, const uint32_t *replicas, size_t replicas_words);
