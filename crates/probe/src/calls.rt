@@ -73,11 +73,11 @@ fn remove_said(
     )
 }
 
-fn ask_said(
+fn ask_said<'a>(
     n: Fields,
     directory: &[u32],
-    originals: &[u32],
-    replicas: &[u32],
+    originals: &'a [u32],
+    replicas: &'a [u32],
     answers: &mut [u32],
 ) -> Said {
     let ruler = n.ruler;
@@ -121,12 +121,12 @@ fn census_said(n: Fields, directory: &[u32], originals: &[u32], replicas: &[u32]
 }
 
 // The call of a row. A line that names none is not whole, so the last arm is never reached.
-fn called(
+fn called<'a>(
     call: Call,
     n: Fields,
     a: &[u32],
-    b: &[u32],
-    c: &[u32],
+    b: &'a [u32],
+    c: &'a [u32],
     first: &mut [u32],
     second: &mut [u32],
     third: &mut [u32],
