@@ -15,6 +15,7 @@ use trip::Window;
 use view::LEVELS;
 use view::SUBDIVISIONS;
 ghost use Prim.Native.Nat.{_≤_};
+ghost use lib.ListN.{length};
 
 // What a call says: its number, its detail, and a count, which is written where the row gives one.
 struct Said {
@@ -232,8 +233,29 @@ fn put_said<'a>(
     }
 }
 
+// Writes the answer of a call: what it said, what its row gives, and the buffers that it may write.
+fn put_answer<'a>(
+    row: Row,
+    said: Said,
+    n: Fields,
+    a: &[u32],
+    b: &'a [u32],
+    c: &'a [u32],
+    first: &[u32],
+    second: &[u32],
+    third: &[u32],
+) {
+    let mut out = [0u8; ROOM];
+    let gives = row.gives;
+    let head = put_said(&mut out, said, gives, n, a, b, c);
+    let one = print::words_if(&mut out, head, row.writes.first, first);
+    let two = print::words_if(&mut out, one, row.writes.second, second);
+    let three = print::words_if(&mut out, two, row.writes.third, third);
+    print::finish(&mut out, three);
+}
+
 // Makes the call and writes its answer. The buffers that it only reads are `a`, `b` and `c`, in the order of the line.
-pub fn make(
+fn make_on(
     row: Row,
     n: Fields,
     ends: Ends,
@@ -242,16 +264,39 @@ pub fn make(
     second: &mut [u32],
     third: &mut [u32],
 ) {
-    let mut out = [0u8; ROOM];
     let call = row.call;
-    let gives = row.gives;
     let a = scan::part(read, 0, ends.first);
     let b = scan::part(read, ends.first, ends.second);
     let c = scan::part(read, ends.second, ends.third);
     let said = called(call, n, a, b, c, first, second, third);
-    let head = put_said(&mut out, said, gives, n, a, b, c);
-    let one = print::words_if(&mut out, head, row.writes.first, first);
-    let two = print::words_if(&mut out, one, row.writes.second, second);
-    let three = print::words_if(&mut out, two, row.writes.third, third);
-    print::finish(&mut out, three);
+    put_answer(row, said, n, a, b, c, first, second, third);
+}
+
+// The same with the words lent, of which the buffers are the first.
+pub fn make(
+    row: Row,
+    n: Fields,
+    reads: Ends,
+    writes: Ends,
+    read: &[u32],
+    first: &mut [u32],
+    second: &mut [u32],
+    third: &mut [u32],
+)
+    requires { ⌜ writes .first ≤ length (now first) ⌝ }
+    requires { ⌜ writes .second ≤ length (now second) ⌝ }
+    requires { ⌜ writes .third ≤ length (now third) ⌝ }
+{
+    let x = writes.first;
+    let y = writes.second;
+    let z = writes.third;
+    make_on(
+        row,
+        n,
+        reads,
+        read,
+        &mut first[0..x],
+        &mut second[0..y],
+        &mut third[0..z],
+    );
 }

@@ -33,18 +33,7 @@ fn answer(
     if !scan::is_whole(line, writes.next) {
         return false;
     }
-    let a = writes.first;
-    let b = writes.second;
-    let c = writes.third;
-    calls::make(
-        row,
-        numbers,
-        reads,
-        read,
-        &mut first[0..a],
-        &mut second[0..b],
-        &mut third[0..c],
-    );
+    calls::make(row, numbers, reads, writes, read, first, second, third);
     true
 }
 
@@ -56,7 +45,7 @@ fn bad_unless(good: bool) {
 }
 
 // Reads the input to its end. A proved loop has to end, so it counts its turns down, from a number that no run uses up. The loop stands
-// apart from `main`, as a loop over arrays that are lent is proved in a tenth of the time that one over its own arrays takes.
+// apart from `main`, as a loop over arrays that are lent is proved in a quarter of the time that one over its own arrays takes.
 fn take_all(
     line: &mut [u8; LINE],
     chunk: &mut [u8; CHUNK],
@@ -72,8 +61,7 @@ fn take_all(
         if !standing.whole {
             return;
         }
-        let good = answer(line, standing.held, read, first, second, third);
-        bad_unless(good);
+        bad_unless(answer(line, standing.held, read, first, second, third));
         turns -= 1;
     }
 }
