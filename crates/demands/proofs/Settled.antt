@@ -1,16 +1,23 @@
--- "any two results allowed by it are proved the same": one general law, and one line for each public function of the index. The other functions that
--- a crate shows have contracts of the form `r ≡ ..`, which `settled` serves as it stands (see docs/DECISIONS.md for those that are of another form).
+-- "any two results allowed by it are proved the same": one general law, and one line for each public function of the index (docs/PUBLIC.md). Those
+-- of the programs and of C are in SettledPrograms.antt.
 use mathlib.Core.Path.{sym, ap, _∙_}
 use mathlib.Core.List.{List}
 use Prim.Native.Nat.{ℕ}
 use Rattle.lists.specs.Lists.{ascending}
+use Rattle.ruler.specs.declared.Time.{Time}
 use Rattle.ruler.specs.declared.Numbers.{Numbers}
-use Rattle.ruler.specs.Ruler.{scaleOf, judge}
+use Rattle.ruler.specs.Ruler.{timeAt, before, sameTime, noLater, scaleOf, judge}
 use Rattle.trip.specs.declared.Trip.{Trip}
 use Rattle.trip.specs.declared.Window.{Window}
+use Rattle.trip.specs.declared.Relationship.{Relationship}
+use Rattle.trip.specs.Relationships.{named, related}
+use Rattle.layout.specs.declared.Refusal.{Refusal}
+use Rattle.layout.specs.declared.Outcome.{Outcome}
 use Rattle.layout.specs.Words.{Index}
-use Rattle.layout.specs.Refusals.{checkOutcome, runOutcome}
+use Rattle.layout.specs.Refusals.{refusalNumber, numberOf, detailOf, checkOutcome, runOutcome}
 use Rattle.layout.specs.Calls.{After, after, Asked, asked, buildOf, addOf, removeOf, askOf, censusOf, runOf, runFromOf}
+use Rattle.verify.specs.Opening.{openOf}
+use Rattle.view.specs.Views.{placeOf}
 use Rattle.demands.specs.Settled.{One, OneAfter, OneAsked}
 
 -- the general law: two things that both equal what the input says are one
@@ -28,10 +35,38 @@ one-asked said o p k j l m e f =
     let same = settled said (asked o k l) (asked p j m) e f in
     (ap (λ (a : Asked). a .outcome) same, ap (λ (a : Asked). a .count) same, ap (λ (a : Asked). a .answers) same)
 
--- ---- `Ruler::new`, and the sort of ids where they stand
+-- ---- what the entries take and give: times, `Ruler::new`, relationships, the numbers of an outcome, and the sort of ids where they stand
+
+pub time-settled : (seconds : ℕ) → One (timeAt seconds)
+time-settled seconds = settled (timeAt seconds)
+
+module _ (s t : Time) where
+  pub before-settled : One (before s t)
+  before-settled = settled (before s t)
+
+  pub same-settled : One (sameTime s t)
+  same-settled = settled (sameTime s t)
+
+  pub no-later-settled : One (noLater s t)
+  no-later-settled = settled (noLater s t)
 
 pub ruler-settled : (n : Numbers) → One (judge n)
 ruler-settled n = settled (judge n)
+
+pub relationship-settled : (code : ℕ) → One (named code)
+relationship-settled code = settled (named code)
+
+pub stands-settled : (r : Relationship) (q : Window) (t : Trip) → One (related r q t)
+stands-settled r q t = settled (related r q t)
+
+pub refusal-number-settled : (why : Refusal) → One (refusalNumber why)
+refusal-number-settled why = settled (refusalNumber why)
+
+pub number-settled : (o : Outcome) → One (numberOf o)
+number-settled o = settled (numberOf o)
+
+pub detail-settled : (o : Outcome) → One (detailOf o)
+detail-settled o = settled (detailOf o)
 
 pub sort-settled : (ids : List ℕ) → One (ascending ids)
 sort-settled ids = settled (ascending ids)
@@ -52,6 +87,9 @@ module _ (n : Numbers) (x : Index) where
   ask-settled code w list = one-asked (askOf (scaleOf n) x code w list)
 
   -- the check, and the outcome of the census
+  pub open-settled : One (openOf n x)
+  open-settled = settled (openOf n x)
+
   pub check-settled : One (checkOutcome (scaleOf n) x)
   check-settled = settled (checkOutcome (scaleOf n) x)
 
@@ -67,3 +105,6 @@ module _ (n : Numbers) (x : Index) where
 
     pub run-from-settled : One (runFromOf (scaleOf n) x L i d)
     run-from-settled = settled (runFromOf (scaleOf n) x L i d)
+
+    pub run-place-settled : One (placeOf (scaleOf n) x L i d)
+    run-place-settled = settled (placeOf (scaleOf n) x L i d)

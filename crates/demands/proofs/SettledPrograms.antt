@@ -1,14 +1,19 @@
 -- The same for what programs call: the C functions, and the session's turns, chunks and end.
-use mathlib.Core.Path.{sym, ap, _∙_}
-use mathlib.Core.List.{List}
+use mathlib.Core.Path.{_≡_, sym, ap, _∙_}
+use mathlib.Core.List.{List, []}
 use Prim.Native.Nat.{ℕ}
 use Rattle.layout.specs.Words.{Index}
 use Rattle.export.specs.Said.{Left, left, Heard, told, Counted, counted, buildSaid, checkSaid, addSaid, removeSaid, askSaid, censusSaid, runSaid}
+use Rattle.layout.specs.Calls.{index}
+use Rattle.text.specs.Bytes.{space, placeOf}
+use Rattle.text.specs.Number.{numberOf}
+use Rattle.text.specs.Decimal.{writtenOf}
 use Rattle.text.specs.Command.{commandOf}
 use Rattle.dialogue.specs.Session.{State, state, Turn, turnOf}
+use Rattle.feeding.specs.declared.Standing.{Standing}
 use Rattle.feeding.specs.Feeding.{Held, Feed, feedOf, endOf}
 use Rattle.feeding.proofs.Holding.{one-standing}
-use Rattle.demands.specs.Settled.{One, OneLeft, OneHeard, OneCounted, OneTurn, OneFeed}
+use Rattle.demands.specs.Settled.{One, OneLeft, OneHeard, OneCounted, OneTurn, OneFeed, Begun}
 use Rattle.demands.proofs.Settled.{settled}
 
 -- ---- the C functions
@@ -50,6 +55,20 @@ module _ (w m : ℕ) (x : Index) where
   pub kheyambo-run-settled : (L i d : ℕ) → One (runSaid w m L i d x)
   kheyambo-run-settled L i d = settled (runSaid w m L i d x)
 
+-- ---- a line of the session: its fields, numbers and meaning, and a number written
+
+pub field-settled : (bytes : List ℕ) (from : ℕ) → One (placeOf space bytes from)
+field-settled bytes from = settled (placeOf space bytes from)
+
+pub field-number-settled : (field : List ℕ) → One (numberOf field)
+field-number-settled field = settled (numberOf field)
+
+pub command-settled : (line : List ℕ) → One (commandOf line)
+command-settled line = settled (commandOf line)
+
+pub written-settled : (n : ℕ) (out : List ℕ) → One (writtenOf n out)
+written-settled n out = settled (writtenOf n out)
+
 -- ---- a turn of the session
 
 one-turn : (said : Turn) (reply : List ℕ) → OneTurn said reply
@@ -80,6 +99,12 @@ one-feed said out r q y z l m bytes others a b =
       ap (λ (s : State). s .answers) keeps,
       a .bytes ∙ sym (b .bytes),
     )
+
+-- before the first byte
+pub begin-settled : (r q : Standing) → Begun r → Begun q → r ≡ q
+begin-settled r q a b =
+    let none = index [] [] [] in
+    one-standing (a .0) (b .0) none none [] [] (a .1 none [] ∙ sym (b .1 none []))
 
 pub feed-settled : (h : Held) (chunk out : List ℕ) → OneFeed (feedOf h chunk) out
 feed-settled h chunk out = one-feed (feedOf h chunk) out

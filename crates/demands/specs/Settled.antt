@@ -1,7 +1,8 @@
 -- "any two results allowed by it are proved the same": a contract says that a record made of the result and of every lent word equals what the input
 -- says. What it is that two such results are the same, part by part, for each form of that record.
 use mathlib.Core.Path.{_≡_}
-use mathlib.Core.List.{List}
+use mathlib.Core.Bool.{true}
+use mathlib.Core.List.{List, []}
 use Prim.Native.Nat.{ℕ}
 use Rattle.layout.specs.declared.Outcome.{Outcome}
 use Rattle.layout.specs.Words.{Index}
@@ -11,7 +12,8 @@ use Rattle.export.specs.declared.Told.{Told}
 use Rattle.export.specs.Said.{Left, left, Heard, told, Counted, counted}
 use Rattle.dialogue.specs.declared.Turned.{Turned}
 use Rattle.feeding.specs.declared.Fed.{Fed}
-use Rattle.dialogue.specs.Session.{Turn, Done}
+use Rattle.feeding.specs.declared.Standing.{Standing}
+use Rattle.dialogue.specs.Session.{state, start, Turn, Done}
 use Rattle.feeding.specs.Feeding as feeding
 
 -- a result alone
@@ -47,3 +49,7 @@ abbrev pub OneFeed : feeding.Feed → (out : List ℕ) → Type 0
 OneFeed said out =
     (r q : Fed) (y z : Index) (l m : List ℕ) (bytes others : List ℕ) → feeding.Left said r y l out bytes → feeding.Left said q z m out others
     → (r ≡ q) × (y ≡ z) × (l ≡ m) × (bytes ≡ others)
+
+-- what the session holds before the first byte of its input
+abbrev pub Begun : Standing → Type 0
+Begun r = feeding.Sound r × ((x : Index) (l : List ℕ) → feeding.heldBy r x l ≡ feeding.held (state (start .desk) x l) [] true)
