@@ -1,6 +1,6 @@
 -- The tests of a table's rows, as the loops over the rows make them, and the room that its entries need.
 use mathlib.Core.Path.{_≡_, sym, ap, ap₂, _∙_}
-use mathlib.Core.Bool.{Bool, true, false, not, _&&_, _||_}
+use mathlib.Core.Bool.{true, false, _||_}
 use mathlib.Core.List.{List, _∷_, List·Memᴰ as Mem, List·Memᴰ·head as here, List·Memᴰ·tail as there, List·Memᴰ·not-nil as not-nil}
 use Prim.Native.Nat.{ℕ, zero, suc, _+_, _-_, _*_, _/_, _≤_, _<_}
 use native.Mathlib.Numerals.{add-one}
@@ -8,24 +8,20 @@ use native.Mathlib.Omega.{arith}
 use lib.Dec.{ltb, eqb}
 use lib.ListN.{length, getD, drop, drop-of-length-le}
 use lib.Seq.{drop-cons}
-use borrow.Author.Tests.{lt-ltb, le-ltb}
 use Rattle.lists.proofs.Tests.{to-T, of-not-T}
 use Rattle.lists.proofs.Members.{none, more}
 use Rattle.lists.proofs.Halving.{at-mem}
 use Rattle.lists.specs.Lists.{sumOver}
 use Rattle.ruler.specs.declared.Ruler.{Ruler}
-use Rattle.ruler.specs.Ruler.{Scale, before, scale}
+use Rattle.ruler.specs.Ruler.{Scale, scale}
 use Rattle.trip.specs.declared.Trip.{Trip}
 use Rattle.layout.specs.declared.Half.the-variants.{Originals, Replicas}
-use Rattle.layout.specs.declared.Refusal.the-variants.{OffRuler, Backward, IdTaken, TooManyPartitions}
-use Rattle.layout.specs.declared.Outcome.{Outcome}
-use Rattle.layout.specs.declared.Outcome.the-variants.{Accepted, Refused}
+use Rattle.layout.specs.declared.Outcome.the-variants.{Accepted}
 use Rattle.layout.specs.Words.{entryWords, tripAt, rows, entries}
-use Rattle.layout.specs.Refusals.{refuse, offRuler, backward, hasId, noRoom, mostPartitions, partitionsHolding, inTooMany, timeTests, rowTests, firstBadRow}
-use Rattle.layout.proofs.Partitions.{Fits}
+use Rattle.layout.specs.Refusals.{hasId, noRoom, partitionsHolding, rowTests, firstBadRow}
 use Rattle.layout.proofs.RowOrder.{OtherId, Distinct, length-same}
 use Rattle.layout.proofs.Rows.{length-rows, getD-rows}
-use Rattle.layout.proofs.Chains.{of-times, to-hasId}
+use Rattle.layout.proofs.Chains.{to-hasId}
 use Rattle.layout.proofs.Slots.{of-originals, to-originals, originals-distinct}
 use Rattle.layout.proofs.RulerCells.{fair-ruler}
 use Rattle.layout.proofs.Links.{andThen, row-then}

@@ -3,7 +3,6 @@ use mathlib.Core.Path.{_≡_, refl, sym, ap, _∙_}
 use mathlib.Core.Bool.{Bool, true, false, not, _||_, true≢false}
 use mathlib.Core.List.{List, _∷_}
 use Prim.Native.Nat.{ℕ, _+_, _-_, _*_, _/_, _^_, _<_}
-use native.Mathlib.Omega.{arith}
 use lib.Dec.{ltb, leb}
 use lib.ListN.{length, getD}
 use Rattle.ruler.specs.declared.Numbers.{Numbers}
@@ -14,7 +13,7 @@ use Rattle.layout.specs.declared.Refusal.{Refusal}
 use Rattle.layout.specs.declared.Refusal.the-variants.{TableSize, NoRoom, NoSuchId}
 use Rattle.layout.specs.declared.Outcome.{Outcome}
 use Rattle.layout.specs.declared.Outcome.the-variants.{Accepted, Refused}
-use Rattle.layout.specs.Words.{entryWords, entries, Index, lengthsOf, layout}
+use Rattle.layout.specs.Words.{entryWords, Index, lengthsOf, layout}
 use Rattle.layout.specs.Refusals.{isAccepted, refuse, full, hasId, noRoom, rowTests, tableOf, addOutcome, removeOutcome, checkOutcome}
 use Rattle.layout.specs.Calls.{ifAccepted, after, leaving, addOf, removeOf, without}
 use Rattle.layout.specs.Walk.{slotsOfTrip}

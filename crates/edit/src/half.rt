@@ -7,30 +7,12 @@ use trip::Trip;
 ghost use mathlib.Core.Path.{_≡_};
 ghost use mathlib.Core.Bool.{true};
 ghost use mathlib.Core.List.{_∷_};
-ghost use Prim.Native.Nat.{_^_, _<_, _≤_};
-ghost use lib.ListN.{length};
 ghost use Rattle.ruler.specs.Ruler.{Scale, inBounds, scale};
 ghost use Rattle.layout.specs.Words.{Index};
 ghost use Rattle.layout.specs.Refusals.{tableOf};
 ghost use Rattle.layout.specs.Calls.{without};
 ghost use Rattle.layout.specs.Walk.{slotsOfTrip};
-ghost use Rattle.lists.specs.Lists.{over};
-ghost use Rattle.store.specs.Places.{mostSlots};
 ghost use Rattle.edit.specs.Halves.{HalfOf, Adding, Removing};
-
-// Writes the slots of a half in which a trip has its entries, and says how many.
-pub fn spots_of(ruler: Ruler, half: Half, t: Trip, spots: &mut [u32]) -> usize
-    requires { ⌜ inBounds (ruler .numbers) ≡ true ⌝ }
-    requires { ⌜ (scale ruler .cell (t .start) < 2 ^ scale ruler .m) × (scale ruler .cell (t .end) < 2 ^ scale ruler .m) × (mostSlots ≤ length (now spots)) ⌝ }
-    ensures { λ r.
-        ⌜ (r ≡ length (slotsOfTrip (scale ruler) half t)) × (now (spots .exit) ≡ over (slotsOfTrip (scale ruler) half t) (now (spots .entry))) ⌝ }
-{
-    let start = t.start;
-    let end = t.end;
-    let first = ruler.bottom_cell(start);
-    let last = ruler.bottom_cell(end);
-    places::slots_of(half, first, last, spots)
-}
 
 // Puts a trip into each of its slots.
 fn add_to_slots(half: Half, dir: &mut [u32], arena: &mut [u32], spots: &[u32], t: Trip)
@@ -73,7 +55,7 @@ pub fn add_half(ruler: Ruler, half: Half, dir: &mut [u32], arena: &mut [u32], t:
         → HalfOf (scale ruler) half (t ∷ tableOf (scale ruler) x) x (now (dir .exit)) (now (arena .exit))) ⌝ }
 {
     let mut spots = [0u32; places::MOST_SLOTS];
-    let n = spots_of(ruler, half, t, &mut spots);
+    let n = places::trip_slots(ruler, half, t, &mut spots);
     add_to_slots(half, dir, arena, &spots[0..n], t);
 }
 
@@ -86,6 +68,6 @@ pub fn remove_half(ruler: Ruler, half: Half, dir: &mut [u32], arena: &mut [u32],
         → HalfOf (scale ruler) half (without (t .id) (tableOf (scale ruler) x)) x (now (dir .exit)) (now (arena .exit))) ⌝ }
 {
     let mut spots = [0u32; places::MOST_SLOTS];
-    let n = spots_of(ruler, half, t, &mut spots);
+    let n = places::trip_slots(ruler, half, t, &mut spots);
     remove_from_slots(half, dir, arena, &spots[0..n], t);
 }

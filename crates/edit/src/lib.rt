@@ -15,11 +15,9 @@ use verify::open;
 ghost use mathlib.Core.Path.{_≡_};
 ghost use mathlib.Core.Bool.{true};
 ghost use mathlib.Core.List.{_∷_, List·Memᴰ};
-ghost use Prim.Native.Nat.{_*_, _≤_};
-ghost use lib.ListN.{length};
 ghost use Rattle.ruler.specs.Ruler.{inBounds, scaleOf, scale};
 ghost use Rattle.layout.specs.declared.Outcome.{Outcome};
-ghost use Rattle.layout.specs.Words.{entryWords, lengthsOf, layout};
+ghost use Rattle.layout.specs.Words.{lengthsOf, layout};
 ghost use Rattle.layout.specs.Refusals.{tableOf, checkOutcome, addOutcome, removeOutcome};
 ghost use Rattle.layout.specs.Calls.{index, after, addOf, removeOf, without};
 

@@ -1,5 +1,4 @@
 // What an edit asks before it writes anything.
-use crate::half;
 use layout::ENTRY_WORDS;
 use layout::Half;
 use layout::MOST_PARTITIONS;
@@ -48,7 +47,7 @@ fn entries_of_trip(ruler: Ruler, half: Half, t: Trip) -> usize
     ensures { λ r. ⌜ (r ≡ length (slotsOfTrip (scale ruler) half t)) × (r ≤ mostSlots) ⌝ }
 {
     let mut spots = [0u32; places::MOST_SLOTS];
-    half::spots_of(ruler, half, t, &mut spots)
+    places::trip_slots(ruler, half, t, &mut spots)
 }
 
 // How many partitions hold a trip: each has one entry of it, in one half or the other.

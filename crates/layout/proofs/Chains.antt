@@ -103,7 +103,8 @@ unfolding backward
 to-backward s t f = le→nltb (t .end .0) (t .start .0) (f .ordered)
 
 -- the chain of both, by what the code found of each time
-pub off-said : (s : Scale) (start end : Time) {a b : Bool} (v : Bool) → a ≡ s .has start → b ≡ s .has end → not (a && b) ≡ v → offRuler s start end ≡ v
+pub off-said : (s : Scale) (start end : Time) {a b : Bool} (v : Bool) → a ≡ s .has start → b ≡ s .has end → not (a && b) ≡ v
+    → offRuler s start end ≡ v
 unfolding offRuler
 off-said s start end v e f h = rw (← e, ← f) h
 

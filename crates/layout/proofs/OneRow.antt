@@ -14,7 +14,8 @@ use Rattle.layout.proofs.Chains.{refuse-no, of-times}
 use Rattle.layout.proofs.Links.{andThen, then-refused, then-accepted, is-accepted, time-then}
 
 module _ (s : Scale) (there : List Trip) (t : Trip) (k : ℕ) (o : Outcome) (times : o ≡ timeTests s (t .start) (t .end) k Accepted) where
-  row-splits : rowTests s there t k Accepted ≡ andThen o (refuse (hasId (t .id) there) IdTaken k (refuse (inTooMany s t) TooManyPartitions k Accepted))
+  row-splits : rowTests s there t k Accepted
+      ≡ andThen o (refuse (hasId (t .id) there) IdTaken k (refuse (inTooMany s t) TooManyPartitions k Accepted))
   unfolding rowTests
   row-splits =
       let rest = refuse (hasId (t .id) there) IdTaken k (refuse (inTooMany s t) TooManyPartitions k Accepted) in

@@ -1,12 +1,15 @@
 // The slots in which a trip has an entry, by a walk from the deepest level up.
 use layout::Half;
 use ruler::Cell;
+use ruler::Ruler;
+use trip::Trip;
 ghost use mathlib.Core.Path.{_≡_};
+ghost use mathlib.Core.Bool.{true};
 ghost use Prim.Native.Nat.{_+_, _^_, _<_, _≤_};
 ghost use lib.ListN.{length};
-ghost use Rattle.ruler.specs.Ruler.{deepest};
+ghost use Rattle.ruler.specs.Ruler.{deepest, inBounds, scale};
 ghost use Rattle.layout.specs.Words.{slotNumber};
-ghost use Rattle.layout.specs.Walk.{inHalf, visit, slotsOf};
+ghost use Rattle.layout.specs.Walk.{inHalf, visit, slotsOf, slotsOfTrip};
 ghost use Rattle.lists.specs.Lists.{over};
 ghost use Rattle.store.specs.Places.{mostSlots, Level, Wrote, visitsAt};
 
@@ -111,4 +114,18 @@ pub fn slots_of(half: Half, a: Cell, b: Cell, spots: &mut [u32]) -> usize
         first = first.above();
         last = last.above();
     }
+}
+
+// The same of a trip, by the cells of its times.
+pub fn trip_slots(ruler: Ruler, half: Half, t: Trip, spots: &mut [u32]) -> usize
+    requires { ⌜ inBounds (ruler .numbers) ≡ true ⌝ }
+    requires { ⌜ (scale ruler .cell (t .start) < 2 ^ scale ruler .m) × (scale ruler .cell (t .end) < 2 ^ scale ruler .m) × (mostSlots ≤ length (now spots)) ⌝ }
+    ensures { λ r.
+        ⌜ (r ≡ length (slotsOfTrip (scale ruler) half t)) × (now (spots .exit) ≡ over (slotsOfTrip (scale ruler) half t) (now (spots .entry))) ⌝ }
+{
+    let start = t.start;
+    let end = t.end;
+    let first = ruler.bottom_cell(start);
+    let last = ruler.bottom_cell(end);
+    slots_of(half, first, last, spots)
 }

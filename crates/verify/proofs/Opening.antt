@@ -12,7 +12,7 @@ use Rattle.layout.specs.declared.Outcome.{Outcome}
 use Rattle.layout.specs.declared.Outcome.the-variants.{Accepted, Refused}
 use Rattle.layout.specs.Words.{Index}
 use Rattle.layout.specs.Refusals.{detailOf, isIndex, indexTests, checkOutcome}
-use Rattle.layout.proofs.Indexes.{Indexed, to-isIndex}
+use Rattle.layout.proofs.Indexes.{to-isIndex}
 use Rattle.layout.proofs.Checked.{refused-for-all, no-detail, checked}
 use Rattle.verify.specs.declared.Opened.{Opened}
 use Rattle.verify.specs.declared.Opened.the-variants.{Index as Opens, Refused as Shuts}

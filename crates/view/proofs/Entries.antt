@@ -27,7 +27,7 @@ use Rattle.verify.specs.declared.Opened.the-variants.{Index as Opens, Refused a
 use Rattle.verify.specs.Opening.{openOf}
 use Rattle.verify.proofs.Opening.{Open, opened, shut}
 use Rattle.view.specs.declared.Place.{Place}
-use Rattle.view.specs.Directory.{slotAt, arenaOf, Halves}
+use Rattle.view.specs.Directory.{slotAt, arenaOf}
 use Rattle.view.specs.Views.{Readable, rowsOpened, placeAt, placeOf, slotPlace}
 use Rattle.view.proofs.Readings.{halves, rows-read, run-from-read, run-length, run-inside, run-part, run-few, slot-in}
 

@@ -97,7 +97,8 @@ returns-2 c =
     let o = a .originals .now in
     let p = a .replicas .now in
     let s = scale (a .ruler) in
-    let fine = sym (far .before .before .before .before .before .before .is-accepted .ensures) ∙ not-false _ (far .before .before .before .before .before .if1 .left) in
+    let fine = sym (far .before .before .before .before .before .before .is-accepted .ensures)
+    ∙ not-false _ (far .before .before .before .before .before .if1 .left) in
     let w = accepted-table s (a .table .now) d o p (far .before .before .before .before .before .before .before .judged .result)
     (far .before .before .before .before .before .before .before .judged .ensures) fine in
     let h = length d / 2 in

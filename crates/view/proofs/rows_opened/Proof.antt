@@ -1,8 +1,7 @@
 -- By cases: the rows of the directory, or zeros.
-use mathlib.Core.Path.{_≡_, sym, ap, _∙_}
-use Prim.Native.Nat.{ℕ}
+use mathlib.Core.Path.{sym, ap, _∙_}
 use Rattle.layout.specs.Calls.{noCensus}
-use Rattle.view.specs.Directory.{rowsOf, Halves}
+use Rattle.view.specs.Directory.{rowsOf}
 use Rattle.view.specs.Views.{rowsOpened}
 use borrow.Author.Needs.{needs}
 use Rattle.view.proofs.rows_opened.Statement.{statement}

@@ -1,7 +1,6 @@
 -- The part of the arena at the place of the run.
 use mathlib.Core.Path.{_≡_, ap, _∙_}
-use Prim.Native.Nat.{ℕ, _+_, _-_}
-use lib.ListN.{take, drop}
+use Prim.Native.Nat.{_+_, _-_}
 use Rattle.ruler.specs.Ruler.{scaleOf}
 use Rattle.layout.specs.Words.{entryWords}
 use Rattle.layout.specs.Answers.{halfOf}

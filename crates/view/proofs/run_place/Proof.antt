@@ -55,7 +55,8 @@ slot-place-requires c κs =
     let is = c .before .before .before .before .before .before .opened .given in
     let w = opened (a .numbers) x (is .0 .0) (c .before .before .before .before .before .before .before .before .«open» .ensures) (is .1) in
     slot-there (a .numbers) x (a .level) (a .partition) (a .subdivision) (is .0 .0) w
-    (sym (c .before .before .before .before .no-such-slot .ensures) ∙ c .before .before .before .if1 .left) _ (c .before .before .numbered .ensures) _ _ (c .before .bottom .ensures) (c .slot-at .ensures)
+    (sym (c .before .before .before .before .no-such-slot .ensures) ∙ c .before .before .before .if1 .left) _
+    (c .before .before .numbered .ensures) _ _ (c .before .bottom .ensures) (c .slot-at .ensures)
 
 enum-known-opened-2 : tie.Need-enum-known-opened-2
 enum-known-opened-2 c = search needs
@@ -70,14 +71,16 @@ returns-2 c =
     let is = c .before .before .before .before .before .before .before .opened .given in
     let w = opened (a .numbers) x (is .0 .0) (c .before .before .before .before .before .before .before .before .before .«open» .ensures) (is .1) in
     c .slot-place .ensures ∙ place-there (a .numbers) x (a .level) (a .partition) (a .subdivision) (is .0 .0) w
-    (sym (c .before .before .before .before .before .no-such-slot .ensures) ∙ c .before .before .before .before .if1 .left) _ (c .before .before .before .numbered .ensures) _ _ (c .before .before .bottom .ensures)
+    (sym (c .before .before .before .before .before .no-such-slot .ensures) ∙ c .before .before .before .before .if1 .left) _
+    (c .before .before .before .numbered .ensures) _ _ (c .before .before .bottom .ensures)
     (c .before .slot-at .ensures)
 
 returns-3 : tie.Need-returns-3
 returns-3 c =
     let a = c .before .before .before .before .before .before .before .before .args in
     let x = index (a .directory .now) (a .originals .now) (a .replicas .now) in
-    c .no-place2 .ensures ∙ place-shut (a .numbers) x (a .level) (a .partition) (a .subdivision) _ (c .before .before .before .before .«open» .ensures) (c .before .before .opened2 .given .1)
+    c .no-place2 .ensures ∙ place-shut (a .numbers) x (a .level) (a .partition) (a .subdivision) _
+    (c .before .before .before .before .«open» .ensures) (c .before .before .opened2 .given .1)
 
 pub run-place-spec : {M : Type 1} → statement M
 run-place-spec =

@@ -82,8 +82,10 @@ returns-3 c =
     let read = c .before .before .before .before .before .before .before .before .before .before .trip-at in
     let times = c .before .before .before .before .before .before .before .time-outcome .ensures in
     let is-row = ap (λ (u : Trip). rowTests s back u (g .args .i) Accepted) (read .ensures) in
-    let fine = sym (c .before .before .before .before .before .before .is-accepted .ensures) ∙ not-false _ (c .before .before .before .before .before .if1 .left) in
-    let many = lt-ltb mostPartitions (partitionsHolding s (read .result)) (omega (arith, c .before .before .partitions-holding .ensures, c .before .if3 .taken)) in
+    let fine = sym (c .before .before .before .before .before .before .is-accepted .ensures)
+    ∙ not-false _ (c .before .before .before .before .before .if1 .left) in
+    let many = lt-ltb mostPartitions (partitionsHolding s (read .result))
+    (omega (arith, c .before .before .partitions-holding .ensures, c .before .if3 .taken)) in
     c .refused2 .ensures ∙ row-decided s back (read .result) (g .args .i) _ times fine false true
     (sym (c .before .before .before .before .id-taken .ensures) ∙ c .before .before .before .if2 .left) many ∙ is-row
 

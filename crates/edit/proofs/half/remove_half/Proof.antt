@@ -6,11 +6,11 @@ use borrow.Author.Needs.{needs}
 use Rattle.edit.proofs.half.remove_half.Statement.{statement}
 use Rattle.edit.proofs.half.remove_half.Tie as tie
 
-slice-aggregate-spots-of : tie.Need-slice-aggregate-spots-of
-slice-aggregate-spots-of c = search needs
+slice-aggregate-trip-slots : tie.Need-slice-aggregate-trip-slots
+slice-aggregate-trip-slots c = search needs
 
-spots-of-requires : tie.Need-spots-of-requires
-spots-of-requires c κs = search needs
+trip-slots-requires : tie.Need-trip-slots-requires
+trip-slots-requires c κs = search needs
 
 sub-remove-from-slots : tie.Need-sub-remove-from-slots
 sub-remove-from-slots c = search needs
@@ -19,7 +19,7 @@ part-remove-from-slots-start : tie.Need-part-remove-from-slots-start
 part-remove-from-slots-start c = search needs
 
 part-remove-from-slots-end : tie.Need-part-remove-from-slots-end
-part-remove-from-slots-end c = let g = c .before .before .before .before .spots-of in omega (
+part-remove-from-slots-end c = let g = c .before .before .before .before .trip-slots in omega (
   arith,
   over-inside (g .result) _ _ _
       (g .ensures .0) (g .ensures .1),
@@ -28,7 +28,7 @@ part-remove-from-slots-end c = let g = c .before .before .before .before .spots-
 remove-from-slots-requires : tie.Need-remove-from-slots-requires
 remove-from-slots-requires c κs =
     let s = c .before .before .before .before .before .before .before .before .before in
-    let g = c .before .before .before .before .before .spots-of in
+    let g = c .before .before .before .before .before .trip-slots in
     (scale (s .args .ruler), s .pre .1 .0, s .pre .1 .1, over-front (g .result) _ _ _ (g .ensures .0) (g .ensures .1))
 
 same-length : tie.Need-same-length
@@ -40,7 +40,7 @@ same-length-2 c = search needs
 returns : tie.Need-returns
 returns c =
     let s = c .before .before .before .before .before .before .before .before .before .before .before .before .before .before in
-    let g = c .before .before .before .before .before .before .before .before .before .before .spots-of in
+    let g = c .before .before .before .before .before .before .before .before .before .before .trip-slots in
     λ x a. c .before .before .before .before .remove-from-slots .ensures (scale (s .args .ruler)) x a (over-front (g .result) _ _ _
     (g .ensures .0) (g .ensures .1))
 
@@ -48,8 +48,8 @@ pub remove-half-spec : {M : Type 1} → statement M
 remove-half-spec =
     tie.close
     (tie.spec
-    slice-aggregate-spots-of
-    spots-of-requires
+    slice-aggregate-trip-slots
+    trip-slots-requires
     sub-remove-from-slots
     part-remove-from-slots-start
     part-remove-from-slots-end

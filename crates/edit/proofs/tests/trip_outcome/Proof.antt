@@ -47,7 +47,8 @@ returns-2 c =
     let times = c .before .before .before .before .before .time-outcome .ensures in
     let fine = sym (c .before .before .before .before .is-accepted .ensures) ∙ not-false _ (c .before .before .before .if1 .left) in
     let known : hasId (t .id) ts ≡ true =
-    has-place (t .id) ts ∙ lt-ltb (placeOfId (t .id) ts) (length ts) (rw (← c .before .before .find-id .ensures, length-rows) (c .before .if2 .taken)) in
+    has-place (t .id) ts ∙ lt-ltb (placeOfId (t .id) ts) (length ts)
+    (rw (← c .before .before .find-id .ensures, length-rows) (c .before .if2 .taken)) in
     c .refused .ensures ∙ row-decided s ts t 0 _ times fine true _ known refl
 
 cast-if3 : tie.Need-cast-if3
@@ -74,9 +75,11 @@ returns-3 c =
     let s = scale (g .args .ruler) in
     let ts = rows (g .args .there .now) in
     let times = c .before .before .before .before .before .before .before .time-outcome .ensures in
-    let fine = sym (c .before .before .before .before .before .before .is-accepted .ensures) ∙ not-false _ (c .before .before .before .before .before .if1 .left) in
+    let fine = sym (c .before .before .before .before .before .before .is-accepted .ensures)
+    ∙ not-false _ (c .before .before .before .before .before .if1 .left) in
     let known : hasId (t .id) ts ≡ false =
-    has-place (t .id) ts ∙ le-ltb (placeOfId (t .id) ts) (length ts) (rw (← c .before .before .before .before .find-id .ensures, length-rows) (c .before .before .before .if2 .left)) in
+    has-place (t .id) ts ∙ le-ltb (placeOfId (t .id) ts) (length ts)
+    (rw (← c .before .before .before .before .find-id .ensures, length-rows) (c .before .before .before .if2 .left)) in
     let many : ltb mostPartitions (partitionsHolding s t) ≡ true =
     lt-ltb mostPartitions (partitionsHolding s t) (rw (← c .before .before .partitions-of-trip .ensures) (c .before .if3 .taken)) in
     c .refused2 .ensures ∙ row-decided s ts t 0 _ times fine false true known many
@@ -91,7 +94,8 @@ returns-4 c =
     let times = c .before .before .before .before .before .before .time-outcome .ensures in
     let fine = sym (c .before .before .before .before .before .is-accepted .ensures) ∙ not-false _ (c .before .before .before .before .if1 .left) in
     let known : hasId (t .id) ts ≡ false =
-    has-place (t .id) ts ∙ le-ltb (placeOfId (t .id) ts) (length ts) (rw (← c .before .before .before .find-id .ensures, length-rows) (c .before .before .if2 .left)) in
+    has-place (t .id) ts ∙ le-ltb (placeOfId (t .id) ts) (length ts)
+    (rw (← c .before .before .before .find-id .ensures, length-rows) (c .before .before .if2 .left)) in
     let many : ltb mostPartitions (partitionsHolding s t) ≡ false =
     le-ltb mostPartitions (partitionsHolding s t) (rw (← c .before .partitions-of-trip .ensures) (c .if3 .left)) in
     row-decided s ts t 0 _ times fine false false known many

@@ -3,8 +3,8 @@ use mathlib.Core.Path.{refl}
 use Rattle.layout.specs.Walk.{slotsOfTrip}
 use Rattle.layout.proofs.RulerCells.{deep-ruler}
 use borrow.Author.Needs.{needs}
-use Rattle.edit.proofs.half.spots_of.Statement.{statement}
-use Rattle.edit.proofs.half.spots_of.Tie as tie
+use Rattle.store.proofs.places.trip_slots.Statement.{statement}
+use Rattle.store.proofs.places.trip_slots.Tie as tie
 
 bottom-cell-requires : tie.Need-bottom-cell-requires
 bottom-cell-requires c κs = search needs
@@ -28,7 +28,7 @@ returns c =
     let k = c .before .before .before .before in
     rw (k .bottom-cell2 .ensures, k .before .bottom-cell .ensures) at (c .before .before .slots-of .ensures)
 
-pub spots-of-spec : {M : Type 1} → statement M
-spots-of-spec =
+pub trip-slots-spec : {M : Type 1} → statement M
+trip-slots-spec =
     tie.close
     (tie.spec bottom-cell-requires bottom-cell-requires-2 slots-of-requires same-length returns)
