@@ -1,12 +1,12 @@
 -- A question on an index: its plan is ready to be walked, and what the walk lists, sorted, is the answer.
-use mathlib.Core.Path.{_≡_, refl, sym, ap, ap₂, _∙_}
+use mathlib.Core.Path.{_≡_, sym, ap, ap₂, _∙_}
 use mathlib.Core.Bool.{Bool, true}
-use mathlib.Core.List.{List, _++_, map, List·Memᴰ as Mem}
-use Prim.Native.Nat.{ℕ, _+_, _*_, _^_, _≤_, _<_}
+use mathlib.Core.List.{List, List·Memᴰ as Mem}
+use Prim.Native.Nat.{_+_, _*_, _^_, _≤_, _<_}
 use native.Mathlib.Omega.{arith}
-use lib.Dec.{T, ltb, leb, ltb→lt}
+use lib.Dec.{T, leb, ltb→lt}
 use lib.Pow.{pow-mono}
-use lib.ListN.{length, getD, length-map, List·getD-append}
+use lib.ListN.{length, getD}
 use Rattle.lists.specs.Lists.{keep, ascending}
 use Rattle.lists.proofs.Tests.{to-T}
 use Rattle.lists.proofs.Members.{keep-length, length-sort, pairs-keep}
@@ -21,14 +21,12 @@ use Rattle.trip.specs.declared.Trip.{Trip}
 use Rattle.trip.specs.declared.Window.{Window}
 use Rattle.trip.specs.declared.Question.{Question}
 use Rattle.trip.specs.Relationships.{related}
-use Rattle.layout.specs.declared.Half.the-variants.{Originals, Replicas}
-use Rattle.layout.specs.Words.{partitions, Index, lengthsOf, layout, entries}
+use Rattle.layout.specs.Words.{partitions, Index, lengthsOf, entries}
 use Rattle.layout.specs.Answers.{matches, answer}
 use Rattle.layout.specs.Refusals.{tableOf, isIndex}
-use Rattle.layout.proofs.Partitions.{Fits}
 use Rattle.layout.proofs.Tables.{Table}
-use Rattle.layout.proofs.Indexes.{Indexed, of-isIndex, back-length}
-use Rattle.layout.proofs.Edits.{idOf, ids-differ, ids-in, matches-distinct}
+use Rattle.layout.proofs.Indexes.{of-isIndex, back-length}
+use Rattle.layout.proofs.Edits.{ids-differ, ids-in}
 use Rattle.layout.proofs.Reading.{originals-laid}
 use Rattle.store.specs.Entries.{ids}
 use Rattle.plan.specs.declared.bounds.Bounds.{Bounds}
@@ -38,7 +36,7 @@ use Rattle.plan.specs.Plan.{planFor}
 use Rattle.plan.proofs.Inside.{inside-related}
 use Rattle.plan.proofs.Looked.{walk}
 use Rattle.plan.proofs.Walked.{Suits, walk-in, in-walk, walk-distinct}
-use Rattle.plan.proofs.Suited.{planAt, plan-for, in-range, suits-plan, quick-right}
+use Rattle.plan.proofs.Suited.{plan-for, in-range, suits-plan, quick-right}
 use Rattle.walk.specs.Levels.{LevelsThere, walkMatches}
 use Rattle.ask.specs.Chain.{OnRuler}
 use Rattle.walk.proofs.Levels.{Ready, levels-there, walk-matches}

@@ -1,5 +1,4 @@
 -- What a question to an index answers, link by link from the end of its chain.
-use mathlib.Core.Path.{_≡_}
 use mathlib.Core.List.{List}
 use Prim.Native.Nat.{ℕ, _≤_}
 use lib.Dec.{T}

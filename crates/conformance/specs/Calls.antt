@@ -1,12 +1,9 @@
 -- A call and its answer as numbers, in the order in which the test port writes them; and the definitions' answer to a call.
-use mathlib.Core.Bool.{Bool, cond}
 use mathlib.Core.List.{List, [], _∷_, _++_}
 use Prim.Native.Nat.{ℕ}
 use lib.ListN.{length}
-use Rattle.lists.specs.Lists.{same}
 use Rattle.ruler.specs.Ruler.{Scale, timeAt, scaleOf}
 use Rattle.layout.specs.declared.Outcome.{Outcome}
-use Rattle.layout.specs.Words.{Index}
 use Rattle.layout.specs.Refusals.{numberOf, detailOf, checkOutcome, runOutcome}
 use Rattle.layout.specs.Calls.{index, After, Asked, buildOf, addOf, removeOf, askOf, censusOf, runOf}
 

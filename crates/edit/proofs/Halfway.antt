@@ -10,7 +10,7 @@ use lib.Dec.{eqb}
 use lib.ListN.{length, getD, set, take, drop}
 use lib.Seq.{take-suc, split-at, take-length}
 use borrow.Author.Tests.{eq-eqb, ne-eqb}
-use Rattle.lists.specs.Lists.{consIf, keep, joined, upTo}
+use Rattle.lists.specs.Lists.{consIf, keep, upTo}
 use Rattle.lists.proofs.Joined.{joined-le}
 use Rattle.lists.proofs.Upto.{upTo-ext}
 use Rattle.trip.specs.declared.Trip.{Trip}

@@ -1,6 +1,6 @@
 -- What the words of a half with an orderly slot say of the slot's part of the arena, and the room or the entry that an edit finds there.
-use mathlib.Core.Path.{_≡_, refl, sym, ap, subst, _∙_}
-use mathlib.Core.List.{List, [], List·Memᴰ as Mem}
+use mathlib.Core.Path.{_≡_, _∙_}
+use mathlib.Core.List.{List, []}
 use Prim.Native.Nat.{ℕ, _+_, _-_, _*_, _≤_, _<_}
 use native.Mathlib.Omega.{arith}
 use lib.ListN.{length, getD}
@@ -11,7 +11,7 @@ use Rattle.trip.specs.declared.Trip.{Trip}
 use Rattle.layout.specs.declared.Half.{Half}
 use Rattle.layout.specs.declared.Subdivision.{Subdivision}
 use Rattle.layout.specs.Words.{entryWords, rows, order, subdivisionAt}
-use Rattle.store.specs.Slots.{Holds, Room, There}
+use Rattle.store.specs.Slots.{Room, There}
 use Rattle.store.specs.Ordered.{preceding, noTrip}
 use Rattle.store.proofs.Slots.{holds-slots}
 use Rattle.store.proofs.Parts as parts

@@ -1,6 +1,6 @@
 -- The trip that a removal finds: it is one of the table, it has the id, and its removal is accepted.
-use mathlib.Core.Path.{_≡_, refl, sym, ap, subst, _∙_}
-use mathlib.Core.Bool.{Bool, true, false}
+use mathlib.Core.Path.{_≡_, sym, ap, subst, _∙_}
+use mathlib.Core.Bool.{true, false}
 use mathlib.Core.List.{List, [], _∷_, List·Memᴰ as Mem}
 use Prim.Native.Nat.{ℕ, zero, suc, _*_, _/_, _≤_, _<_}
 use native.Mathlib.Nat.{le-of-suc-le-suc, not-suc-le-zero}
@@ -15,7 +15,7 @@ use Rattle.layout.specs.declared.Refusal.the-variants.{NoSuchId}
 use Rattle.layout.specs.declared.Outcome.{Outcome}
 use Rattle.layout.specs.declared.Outcome.the-variants.{Accepted, Refused}
 use Rattle.layout.specs.Words.{entryWords, tripAt, rows, partitions, Index}
-use Rattle.layout.specs.Refusals.{isAccepted, refuse, hasId, tableOf, removeOutcome, checkOutcome}
+use Rattle.layout.specs.Refusals.{isAccepted, refuse, tableOf, removeOutcome, checkOutcome}
 use Rattle.layout.specs.Calls.{after, removeOf}
 use Rattle.layout.proofs.Rows.{getD-rows}
 use Rattle.store.specs.Ordered.{noTrip}
@@ -45,7 +45,7 @@ pub record Found (s : Scale) (x : Index) (i : ℕ) (t : Trip) : Type 0 where
 
 module _ (s : Scale) (x : Index) (i place : ℕ) (good : checkOutcome s x ≡ Accepted) (w : Shown s x) (e : place ≡ placeOfId i (tableOf s x)) where
   pub found : (t : Trip) → place < length (tableOf s x) → t ≡ tripAt (x .originals) place → Found s x i t
-  unfolding entryWords refuse
+  unfolding refuse
   found t h q =
       let here : t ≡ getD (tableOf s x) place noTrip = q ∙ table-at s x place h (omega (arith, w .inside)) in
       record {

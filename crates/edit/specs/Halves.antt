@@ -1,6 +1,6 @@
 -- One half of the words of an index, before an edit that is accepted and after it.
 use mathlib.Core.Path.{_≡_}
-use mathlib.Core.List.{List, _∷_, List·Memᴰ as Mem}
+use mathlib.Core.List.{List, List·Memᴰ as Mem}
 use Prim.Native.Nat.{ℕ, _^_, _<_}
 use lib.ListN.{length}
 use Rattle.ruler.specs.Ruler.{Scale}

@@ -8,7 +8,7 @@ use lib.Dec.{ltb}
 use Rattle.ruler.specs.Ruler.{scaleOf}
 use Rattle.layout.specs.declared.Outcome.{Outcome}
 use Rattle.layout.specs.declared.Outcome.the-variants.{Accepted, Refused}
-use Rattle.layout.specs.Words.{entryWords, Index}
+use Rattle.layout.specs.Words.{Index}
 use Rattle.layout.specs.Refusals.{isAccepted, numberOf, detailOf}
 use Rattle.layout.specs.Calls.{After, after, Asked, asked, ifAccepted}
 use Rattle.view.specs.declared.Place.{Place}
@@ -39,7 +39,6 @@ arena-said (Refused why k) d b e = ap (λ (c : Bool). cond c 0 1) (sym e)
 module _ (w m L i d : ℕ) (x : Index) {p : Place} (e : p ≡ placeOf (scaleOf (numbers w m)) x L i d) where
   -- its words are few, so that 32 bits tell where it begins and how long it is
   pub run-small : (p .from < 2 ^ 32) × (p .length < 2 ^ 32)
-  unfolding entryWords
   run-small =
       let ends = run-ends (scaleOf (numbers w m)) x L i d in
       rw e (omega (arith, ends), omega (arith, ends))

@@ -1,14 +1,14 @@
 -- What an edit does to each slot, and what the answer to a question is made of. Each equation between sorted lists is proved in one way:
 -- both sides are in strict order and have the same members.
-use mathlib.Core.Path.{_≡_, refl, sym, ap, _∙_}
+use mathlib.Core.Path.{_≡_, refl, ap, _∙_}
 use mathlib.Core.Bool.{Bool, true, false, cond, not}
 use mathlib.Core.List.{List, [], _∷_, map, List·Memᴰ as Mem, List·Memᴰ·head as here, List·Memᴰ·tail as there, List·Memᴰ·not-nil as not-nil}
-use Prim.Native.Nat.{ℕ, _*_, _/_, _%_, _≤_}
+use Prim.Native.Nat.{ℕ, _*_, _/_, _≤_}
 use lib.ListN.{length}
-use lib.Dec.{T, ltb, eqb}
+use lib.Dec.{ltb, eqb}
 use Rattle.lists.specs.Lists.{consIf, keep, insert, sort, ascending}
 use Rattle.lists.proofs.Joined.{joined-le}
-use Rattle.lists.proofs.Members.{In, Pairs, none, more, keep-length, of-keep, to-keep, keep-in, of-sort, to-sort, pairs-keep}
+use Rattle.lists.proofs.Members.{In, none, more, keep-length, of-keep, to-keep, keep-in, of-sort, to-sort, pairs-keep}
 use Rattle.lists.proofs.Sorting.{Sorted, Differ, below, differ-apart, unique, sorted-sort, ascending-below, ascending-same}
 use Rattle.ruler.specs.Ruler.{Scale}
 use Rattle.trip.specs.declared.Trip.{Trip}
@@ -20,7 +20,7 @@ use Rattle.layout.specs.Stored.{belongs}
 use Rattle.layout.specs.Words.{order, partitions, levelOf, placeOf, slotTrips, subdivisionAt, slot, entriesBefore, entries}
 use Rattle.layout.specs.Answers.{matches, answer}
 use Rattle.layout.specs.Calls.{without}
-use Rattle.layout.proofs.RowOrder.{OtherId, Distinct, slot-order, distinct-apart}
+use Rattle.layout.proofs.RowOrder.{Distinct, slot-order, distinct-apart}
 
 -- ---- an addition: the slots that the trip belongs in get it, in its place
 

@@ -19,7 +19,6 @@ use Rattle.ruler.proofs.Fair.{Fair, fair}
 use Rattle.trip.specs.declared.Trip.{Trip}
 use Rattle.layout.specs.declared.Half.{Half}
 use Rattle.layout.specs.declared.Half.the-variants.{Originals, Replicas}
-use Rattle.layout.specs.declared.Outcome.the-variants.{Accepted}
 use Rattle.layout.specs.Words.{words, rows, partitions, halfLength, directoryLength, entriesBefore, entries, directoryHalf, arena, Index, Lengths, lengthsOf, layout}
 use Rattle.layout.specs.Refusals.{isAccepted, buildOutcome, IndexOf, IndexOfSome, tableOf, sameIndex, gives, isIndex}
 use Rattle.layout.proofs.RowOrder.{Distinct, layout-same, entries-same, length-same}

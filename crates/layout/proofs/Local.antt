@@ -3,7 +3,7 @@
 -- replica is one of the originals, and the entries are as many as the partitions that hold the originals, added up. Nothing is laid out anew.
 use mathlib.Core.Path.{_≡_, sym, ap, ap₂, _∙_}
 use mathlib.Core.List.{List, _++_, List·Memᴰ as Mem, List·Memᴰ·not-nil as not-nil}
-use Prim.Native.Nat.{ℕ, _+_, _-_, _*_, _%_, _≤_, _<_}
+use Prim.Native.Nat.{ℕ, _+_, _-_, _*_, _≤_, _<_}
 use native.Mathlib.Omega.{arith}
 use lib.Dec.{T}
 use lib.ListN.{length, take, drop, replicate, length-append, take-append-drop}
@@ -20,7 +20,6 @@ use Rattle.ruler.proofs.Fair.{Fair}
 use Rattle.trip.specs.declared.Trip.{Trip}
 use Rattle.layout.specs.declared.Half.{Half}
 use Rattle.layout.specs.declared.Half.the-variants.{Originals, Replicas}
-use Rattle.layout.specs.declared.Subdivision.{Subdivision}
 use Rattle.layout.specs.Words.{entryWords, words, order, partitions, halfLength, directoryLength, subdivisionAt, slot, entriesBefore, entries, directoryHalf, arena, Index, lengthsOf, layout}
 use Rattle.layout.specs.Refusals.{partitionsHolding, tableOf}
 use Rattle.layout.proofs.Partitions.{Fits}

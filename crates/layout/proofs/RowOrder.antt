@@ -1,5 +1,5 @@
 -- Row order in the table has no influence on the index: two tables with the same trips, no id twice in either, have one layout.
-use mathlib.Core.Path.{_≡_, refl, sym, ap, subst, _∙_, fun-ext}
+use mathlib.Core.Path.{_≡_, sym, ap, subst, _∙_, fun-ext}
 use mathlib.Core.Logic.{_⊎_, inl, inr}
 use mathlib.Core.Bool.{Bool, _&&_, _||_}
 use mathlib.Core.List.{List}
@@ -8,7 +8,6 @@ use native.Mathlib.Omega.{arith}
 use native.Mathlib.Decide.{decLt}
 use lib.Dec.{T, ltb, eqb, ltb→lt, lt→ltb, eqb→eq, eqb-refl}
 use lib.ListN.{length}
-use Rattle.lists.specs.Lists.{keep, sort}
 use Rattle.lists.proofs.Tests.{of-and, to-and, of-or, or-left, or-right}
 use Rattle.lists.proofs.Members.{In, Pairs, none, more, keep-in, pairs-keep, pairs-sort, length-sort}
 use Rattle.lists.proofs.Sorting.{Apart, Sorted, StrictOrder, sort-same, sorted-sort}

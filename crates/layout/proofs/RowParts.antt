@@ -19,7 +19,6 @@ rows-of-two p q h = ap (λ (z : List ℕ). rows (z ++ q)) (sym (words-rows p h))
 module _ (n : ℕ) (l : List ℕ) (h : n ≤ length l / entryWords) where
   -- the words of the first n entries
   pub front-length : length (take (entryWords * n) l) ≡ entryWords * n
-  unfolding entryWords
   front-length = length-take-le (entryWords * n) l (omega arith)
 
   front-whole : length (take (entryWords * n) l) % entryWords ≡ 0
@@ -48,7 +47,6 @@ pub rows-apart : (l : List ℕ) (a b c : ℕ) → a ≤ b → b ≤ c → entryW
     → rows (take (entryWords * c - entryWords * a) (drop (entryWords * a) l))
     ≡ rows (take (entryWords * b - entryWords * a) (drop (entryWords * a) l)) ++ rows
     (take (entryWords * c - entryWords * b) (drop (entryWords * b) l))
-unfolding entryWords
 rows-apart l a b c h g room =
     let n = entryWords * b - entryWords * a in
     let m = entryWords * c - entryWords * b in

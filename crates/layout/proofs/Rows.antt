@@ -2,29 +2,28 @@
 -- part knows how many words a trip has, and which.
 use mathlib.Core.Path.{_≡_, refl, sym, ap, ap₂, _∙_}
 use mathlib.Core.List.{List, [], _∷_, _++_, append-assoc, append-nil}
-use Prim.Native.Nat.{ℕ, zero, suc, _+_, _-_, _*_, _/_, _%_, _≤_, _<_}
+use Prim.Native.Nat.{ℕ, zero, suc, _+_, _*_, _/_, _%_, _≤_, _<_}
 use native.Mathlib.Omega.{arith}
 use lib.ListN.{length, take, drop, getD, length-append, length-drop}
 use lib.Seq.{getD-append-add, getD-drop, take-at}
 use Rattle.lists.specs.Lists.{upTo}
 use Rattle.lists.proofs.Upto.{length-upTo, getD-upTo, upTo-cons, upTo-ext}
 use Rattle.trip.specs.declared.Trip.{Trip}
-use Rattle.ruler.specs.Ruler.{timeAt}
 use Rattle.layout.specs.Words.{entryWords, tripWords, tripAt, words, rows}
 
 -- ---- one trip
 
 pub tripWords-length : (t : Trip) → length (tripWords t) ≡ entryWords
-unfolding tripWords entryWords
+unfolding tripWords
 tripWords-length t = refl
 
 pub tripAt-first : (t : Trip) (l : List ℕ) → tripAt (tripWords t ++ l) 0 ≡ t
-unfolding tripWords tripAt entryWords
+unfolding tripWords tripAt
 tripAt-first t l = refl
 
 -- the first row of a list that has one
 pub first-row : (l : List ℕ) → entryWords ≤ length l → tripWords (tripAt l 0) ++ drop entryWords l ≡ l
-unfolding tripWords tripAt entryWords
+unfolding tripWords tripAt
 first-row [] h = absurd (omega arith)
 first-row (a ∷ []) h = absurd (omega arith)
 first-row (a ∷ b ∷ []) h = absurd (omega arith)
@@ -39,40 +38,31 @@ tripAt-from l k i j h =
     rw (first, h 1, h 2)
 
 pub words-some : 1 ≤ entryWords
-unfolding entryWords
 words-some = omega arith
 
 -- whole entries and the words that they have
 pub one-more : (n : ℕ) → (entryWords + n) / entryWords ≡ suc (n / entryWords)
-unfolding entryWords
 one-more n = omega arith
 
 pub times-one-more : (n : ℕ) → entryWords * suc n ≡ entryWords + entryWords * n
-unfolding entryWords
 times-one-more n = omega arith
 
 pub no-words : entryWords * 0 ≡ 0
-unfolding entryWords
 no-words = refl
 
 pub whole : (n : ℕ) → entryWords * n / entryWords ≡ n
-unfolding entryWords
 whole n = omega arith
 
 pub whole-rest : (n : ℕ) → entryWords * n % entryWords ≡ 0
-unfolding entryWords
 whole-rest n = omega arith
 
 pub of-whole : (n : ℕ) → n % entryWords ≡ 0 → entryWords * (n / entryWords) ≡ n
-unfolding entryWords
 of-whole n e = omega arith
 
 pub words-add : (n k : ℕ) → entryWords * (n + k) ≡ entryWords * n + entryWords * k
-unfolding entryWords
 words-add n k = omega arith
 
 pub words-le : {n k : ℕ} → n ≤ k → entryWords * n ≤ entryWords * k
-unfolding entryWords
 words-le h = omega arith
 
 -- ---- trips one after another
@@ -112,7 +102,7 @@ rows-append [] l = refl
 rows-append (t ∷ ts) l = rw append-assoc (rows-cons t (words ts ++ l) ∙ ap (λ (us : List Trip). t ∷ us) (rows-append ts l))
 
 pub rows-none : rows [] ≡ []
-unfolding rows upTo entryWords
+unfolding rows upTo
 rows-none = refl
 
 pub rows-words : (ts : List Trip) → rows (words ts) ≡ ts

@@ -1,5 +1,5 @@
 -- The two sides of a subdivision: which half it is of, and whether it is the "aft" slot of its partition; and slots counted by twos.
-use mathlib.Core.Path.{_≡_, refl, sym, _∙_}
+use mathlib.Core.Path.{_≡_, refl}
 use mathlib.Core.Bool.{Bool, true, false, not}
 use Prim.Native.Nat.{ℕ, _+_, _*_, _/_, _%_, _<_}
 use native.Mathlib.Omega.{arith}

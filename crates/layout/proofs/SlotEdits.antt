@@ -2,22 +2,20 @@
 use mathlib.Core.Path.{_≡_, refl, sym, ap, subst, _∙_}
 use mathlib.Core.Bool.{Bool, true, false, cond, not}
 use mathlib.Core.List.{List, [], _∷_, List·Memᴰ as Mem, List·Memᴰ·head as here, List·Memᴰ·tail as there}
-use Prim.Native.Nat.{ℕ, _*_, _/_, _%_, _≤_, _<_}
+use Prim.Native.Nat.{ℕ, _/_, _≤_}
 use native.Mathlib.Omega.{arith}
 use lib.Dec.{T, eqb, eqb→eq, not-T}
 use lib.ListN.{length}
 use Rattle.lists.specs.Lists.{consIf, keep, insert}
 use Rattle.lists.proofs.Tests.{of-T, to-T}
-use Rattle.lists.proofs.Members.{pairs-keep, pairs-sort, length-sort}
-use Rattle.lists.proofs.Sorting.{Sorted, sorted-sort}
+use Rattle.lists.proofs.Members.{length-sort}
 use Rattle.ruler.specs.Ruler.{Scale}
 use Rattle.trip.specs.declared.Trip.{Trip}
 use Rattle.layout.specs.declared.Half.{Half}
-use Rattle.layout.specs.declared.Subdivision.{Subdivision}
 use Rattle.layout.specs.Stored.{belongs}
 use Rattle.layout.specs.Words.{order, levelOf, placeOf, slotTrips, subdivisionAt, slot}
 use Rattle.layout.specs.Calls.{without}
-use Rattle.layout.proofs.RowOrder.{OtherId, Distinct, slot-order, distinct-apart}
+use Rattle.layout.proofs.RowOrder.{OtherId, Distinct}
 use Rattle.layout.proofs.Slots.{of-slot, to-slot, same-id}
 use Rattle.layout.proofs.Edits.{slotTrips-add, slotTrips-without}
 use Rattle.layout.proofs.Walk.{inSlot}

@@ -7,17 +7,16 @@ use Prim.Native.Nat.{ℕ, _+_, _*_, _/_, _%_, _^_, _≤_, _<_}
 use native.Mathlib.Omega.{arith}
 use lib.Dec.{T, eqb}
 use borrow.Author.Tests.{eqb-true, eqb-false}
-use Rattle.lists.specs.Lists.{joined}
-use Rattle.lists.proofs.Members.{In, Pairs, none, more, of-keep, to-keep, of-sort, to-sort, of-joined, to-joined, pairs-keep, pairs-sort, pairs-joined}
+use Rattle.lists.proofs.Members.{In, more, of-keep, to-keep, of-sort, to-sort, of-joined, to-joined, pairs-keep, pairs-sort, pairs-joined}
 use Rattle.ruler.specs.Ruler.{Scale}
 use Rattle.ruler.proofs.Fair.{Fair}
 use Rattle.trip.specs.declared.Trip.{Trip}
 use Rattle.layout.specs.declared.Half.{Half}
-use Rattle.layout.specs.declared.Half.the-variants.{Originals, Replicas}
+use Rattle.layout.specs.declared.Half.the-variants.{Originals}
 use Rattle.layout.specs.declared.Subdivision.{Subdivision}
 use Rattle.layout.specs.Stored.{holdsTrip, isOriginal, isIn, subdivisionOf, isOf, belongs}
 use Rattle.layout.specs.Words.{order, partitions, partitionNumber, levelOf, placeOf, slotTrips, slot, entriesBefore, entries}
-use Rattle.layout.proofs.Partitions.{Fits, Once, one-original}
+use Rattle.layout.proofs.Partitions.{Fits, one-original}
 use Rattle.layout.proofs.Numbers.{level-number, place-number, numbered, number-place, number-lt}
 use Rattle.layout.proofs.RowOrder.{Distinct}
 

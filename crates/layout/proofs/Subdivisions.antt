@@ -1,7 +1,6 @@
 -- The subdivisions: their numbers and what they name, their halves and sides, and back.
 use mathlib.Core.Path.{_≡_, refl}
 use mathlib.Core.Bool.{Bool, true, false}
-use Prim.Native.Nat.{ℕ, _≤_}
 use Rattle.layout.specs.declared.Half.{Half}
 use Rattle.layout.specs.declared.Half.the-variants.{Originals, Replicas}
 use Rattle.layout.specs.declared.Subdivision.{Subdivision}

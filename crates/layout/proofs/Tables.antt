@@ -1,11 +1,10 @@
 -- What build accepts, as facts, both ways.
 use mathlib.Core.Path.{_≡_, refl, sym, ap, subst, _∙_}
 use mathlib.Core.List.{List, [], _∷_, List·Memᴰ as Mem, List·Memᴰ·head as here, List·Memᴰ·tail as there, List·Memᴰ·not-nil as not-nil}
-use Prim.Native.Nat.{ℕ, suc, _*_, _/_, _%_, _≤_}
-use native.Mathlib.Omega.{arith}
+use Prim.Native.Nat.{ℕ, suc, _%_, _≤_}
 use lib.Dec.{T}
 use lib.ListN.{length}
-use Rattle.lists.proofs.Members.{Pairs, none, more}
+use Rattle.lists.proofs.Members.{none, more}
 use Rattle.ruler.specs.Ruler.{Scale, mostTrips}
 use Rattle.trip.specs.declared.Trip.{Trip}
 use Rattle.layout.specs.declared.Outcome.{Outcome}

@@ -18,7 +18,7 @@ use Rattle.layout.specs.declared.Subdivision.the-variants.{OIn, OAft, RI
 use Rattle.layout.specs.declared.Outcome.{Outcome}
 use Rattle.layout.specs.declared.Outcome.the-variants.{Accepted}
 use Rattle.layout.specs.Stored.{belongs}
-use Rattle.layout.specs.Words.{Index, Lengths, words, directoryLength, layout}
+use Rattle.layout.specs.Words.{Index, words, directoryLength, layout}
 use Rattle.layout.specs.Refusals.{numberOf, detailOf, full, partitionsHolding, buildOutcome, windowTests, askOutcome}
 use Rattle.layout.specs.Calls.{buildOf, asked, askOf}
 

@@ -6,7 +6,7 @@ use mathlib.Core.List.{List, [], _∷_}
 use Prim.Native.Nat.{ℕ, suc, _+_, _*_, _/_, _%_}
 use lib.Dec.{leb, ltb, eqb}
 use lib.ListN.{length, getD, take}
-use Rattle.lists.specs.Lists.{keep, count, same}
+use Rattle.lists.specs.Lists.{count, same}
 use Rattle.ruler.specs.declared.Time.{Time}
 use Rattle.ruler.specs.Ruler.{Scale, mostTrips, before}
 use Rattle.trip.specs.declared.Trip.{Trip}

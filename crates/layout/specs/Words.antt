@@ -1,7 +1,7 @@
 -- Document 01, "Words of the index", as definitions. Every test is a Bool and computes.
 use mathlib.Core.Path.{_≡_}
 use mathlib.Core.Logic.{_↔_}
-use mathlib.Core.Bool.{Bool, true, false, cond, _&&_, _||_}
+use mathlib.Core.Bool.{Bool, cond, _&&_, _||_}
 use mathlib.Core.List.{List, [], _∷_, _++_, List·Memᴰ as Mem}
 use Prim.Native.Nat.{ℕ, zero, suc, _+_, _-_, _*_, _/_, _%_, _^_}
 use lib.Dec.{leb, ltb, eqb}
@@ -16,7 +16,7 @@ use Rattle.layout.specs.declared.Subdivision.the-variants.{OIn, OAft, RI
 use Rattle.layout.specs.Stored.{belongs, subdivisionOf}
 
 -- "A table row and an index entry are three words: id, start, end." (Here alone: how many words, which, and how they are read.)
-unfoldable pub entryWords : ℕ
+abbrev pub entryWords : ℕ
 entryWords = 3
 
 unfoldable pub tripWords : Trip → List ℕ

@@ -1,11 +1,9 @@
 -- The cells of a plan at a level, and how small the numbers of their slots are.
-use mathlib.Core.Path.{_≡_}
 use Prim.Native.Nat.{ℕ, _+_, _^_, _≤_, _<_}
 use native.Mathlib.Nat.{two-pow-succ}
 use native.Mathlib.Numerals.{add-one}
 use native.Mathlib.Omega.{arith}
 use lib.Pow.{pow-pos, pow-mono}
-use Rattle.ruler.specs.declared.Cell.{Cell}
 use Rattle.ruler.specs.Ruler.{deepest, cellUp}
 use Rattle.ruler.proofs.Levels.{up-mono, up-lt}
 use Rattle.layout.specs.Words.{partitions, partitionNumber, halfLength}

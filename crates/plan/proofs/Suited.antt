@@ -1,15 +1,14 @@
 -- The plan of each relationship lies on the ruler, suits its matches, and is quick only where that is right.
-use mathlib.Core.Path.{_≡_, refl, sym, ap, _∙_}
+use mathlib.Core.Path.{_≡_, refl}
 use mathlib.Core.Bool.{Bool, true, false, _&&_}
 use Prim.Native.Nat.{ℕ, _-_, _^_, _≤_, _<_}
 use native.Mathlib.Nat.{le-antisymm, le-trans}
 use native.Mathlib.Decide.{decLt}
 use native.Mathlib.Omega.{arith}
-use lib.Dec.{T, leb, ltb, eqb, leb→le, le→leb, ltb→lt, eqb→eq}
-use lib.Pow.{pow-pos}
+use lib.Dec.{T, leb→le, le→leb, ltb→lt, eqb→eq}
 use Rattle.lists.proofs.Tests.{of-and, to-and}
 use Rattle.ruler.specs.declared.Time.{Time}
-use Rattle.ruler.specs.Ruler.{Scale, deepest, before, sameTime, noLater, cellOf, cellAt}
+use Rattle.ruler.specs.Ruler.{Scale, deepest, before, sameTime, noLater, cellOf}
 use Rattle.ruler.proofs.Levels.{up-bottom}
 use Rattle.ruler.proofs.Fair.{Fair}
 use Rattle.trip.specs.declared.Trip.{Trip}

@@ -1,8 +1,8 @@
 -- Which entries match untested, and why: where a plan is quick, a trip that ends after the low cell and starts before the high one
 -- matches. So a level's matches are the same with the tests left out there.
-use mathlib.Core.Path.{_≡_, refl, sym, ap, ap₂, _∙_, fun-ext}
+use mathlib.Core.Path.{_≡_, refl, sym, ap, _∙_, fun-ext}
 use mathlib.Core.Bool.{Bool, true, false, not, _&&_}
-use mathlib.Core.List.{List, [], _++_, List·Memᴰ as Mem, append-assoc}
+use mathlib.Core.List.{List, _++_, List·Memᴰ as Mem, append-assoc}
 use Prim.Native.Nat.{ℕ, _+_, _-_, _*_, _/_, _%_, _^_, _≤_, _<_}
 use native.Mathlib.Nat.{mul-mod-left}
 use native.Mathlib.Decide.{decLt}

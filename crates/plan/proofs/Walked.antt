@@ -2,7 +2,7 @@
 use mathlib.Core.Path.{_≡_, refl, sym, ap, _∙_}
 use mathlib.Core.Logic.{_⊎_, inl, inr}
 use mathlib.Core.Bool.{Bool, true, false, not, _&&_, _||_}
-use mathlib.Core.List.{List, _++_, List·Memᴰ as Mem}
+use mathlib.Core.List.{List, List·Memᴰ as Mem}
 use mathlib.Core.List.{Memᴰ·append-left as append-left, Memᴰ·append-right as append-right, List·Memᴰ·append-cases as append-cases}
 use Prim.Native.Nat.{ℕ, _+_, _-_, _*_, _/_, _%_, _≤_, _<_}
 use native.Mathlib.Omega.{arith}

@@ -13,8 +13,6 @@ use rows::FIRST;
 use rows::READ;
 use rows::SECOND;
 use rows::THIRD;
-ghost use Prim.Native.Nat.{_≤_};
-ghost use lib.ListN.{length};
 
 // Answers what is held of a line, and says whether it was a call. Nothing is called or written before the whole line is read.
 fn answer(

@@ -1,5 +1,5 @@
 -- Document 01, "Ruler and cells", as definitions. Every test is a Bool and computes.
-use mathlib.Core.Bool.{Bool, true, false, cond, _&&_}
+use mathlib.Core.Bool.{Bool, cond, _&&_}
 use Prim.Native.Nat.{ℕ, _+_, _-_, _*_, _/_, _%_, _^_}
 use lib.Dec.{leb, ltb, eqb}
 use Rattle.ruler.specs.declared.Time.{Time}

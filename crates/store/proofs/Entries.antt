@@ -16,7 +16,7 @@ use Rattle.store.specs.Entries.{put, ids}
 -- the stores of a trip's words, one after another
 pub put-words : (l : List ℕ) (k : ℕ) (t : Trip) → k < length l / entryWords
     → set (set (set l (entryWords * k) (t .id)) (entryWords * k + 1) (t .start .0)) (entryWords * k + 2) (t .end .0) ≡ put k t l
-unfolding put tripWords entryWords
+unfolding put tripWords
 put-words l k t h =
     let a = entryWords * k in
     let one : a + 1 ≡ suc a = omega arith in

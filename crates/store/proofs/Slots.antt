@@ -195,7 +195,7 @@ room-inserted dir arena ls slot pos at used t r a u =
           ∙ rw (add-one slot) (sym (starts-longer 0 slot (inserted pos t l) ls (r .slot-in) (length-inserted pos t l)));
       free = free;
       entries = rw (whole, at-is, used-is, flat-inserted slot pos t ls (r .slot-in) (r .pos-in))
-          (words-inserted (ahead slot ls + pos) t (flat ls) (replicate entryWords 0) (replicate free 0) inside (length-replicate entryWords 0));
+          (words-inserted (ahead slot ls + pos) t (flat ls) (replicate entryWords 0) (replicate free 0) inside (length-replicate {A = ℕ} entryWords 0));
     }
 
 -- what `remove` reads of the words

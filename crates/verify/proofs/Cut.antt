@@ -6,7 +6,6 @@ use mathlib.Core.List.{List, [], _∷_, _++_}
 use Prim.Native.Nat.{ℕ, zero, suc, _+_, _-_, _*_, _%_, _≤_, _<_}
 use native.Mathlib.Omega.{arith}
 use native.Mathlib.Numerals.{add-one}
-use native.Mathlib.Nat.{mul-zero}
 use native.Mathlib.Decide.{le-ind}
 use lib.Dec.{T, leb, eqb, leb→le, le→leb, eqb→eq}
 use lib.ListN.{length, getD, take, drop, replicate, length-drop, take-append-drop}
@@ -95,11 +94,9 @@ to-half dir arena n l c =
 
 -- whole entries between two counts
 whole-part : (a b : ℕ) → a ≤ b → (entryWords * b - entryWords * a) % entryWords ≡ 0
-unfolding entryWords
 whole-part a b h = omega arith
 
 count-words : (a b : ℕ) → entryWords * a ≡ entryWords * b → a ≡ b
-unfolding entryWords
 count-words a b e = omega arith
 
 module _ (dir arena : List ℕ) (n : ℕ) (c : Cut dir arena n) where
@@ -124,7 +121,7 @@ module _ (dir arena : List ℕ) (n : ℕ) (c : Cut dir arena n) where
   -- the words before slot k are those of the slots before it
   pub words-cut : (k : ℕ) → k ≤ n → words (joined (slotAt dir arena) k) ≡ take (entryWords * getD dir k 0) arena
   unfolding joined words slotWords
-  words-cut zero h = rw (c .first, mul-zero) refl
+  words-cut zero h = rw (c .first) refl
   words-cut (suc k) h =
       let a = entryWords * getD dir k 0 in
       let b = entryWords * getD dir (k + 1) 0 in

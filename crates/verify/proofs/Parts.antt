@@ -42,7 +42,6 @@ half-room dir arena e =
 
 -- the totals of two halves that pass are small numbers
 pub totals-fit : (o orig r repl : List ℕ) → halvesOk o orig r repl ≡ true → total o + total r ≤ length orig + length repl
-unfolding entryWords
 totals-fit o orig r repl e =
     let w = of-halves o orig r repl e in
     omega (arith, half-room o orig (w .0), half-room r repl (w .1))

@@ -92,12 +92,11 @@ module _ (s : Scale) (x : Index) (w : Indexed s x) where
 
     pub run-length : entryWords * getD dir (slotAt (s .m) L i d + 1) 0 - entryWords * getD dir (slotAt (s .m) L i d) 0
         ≡ length (runWords s trips L i d)
-    unfolding runWords entryWords
+    unfolding runWords
     run-length = omega (arith, slot-count, slot-in .low, words-length (slotTrips s d L i trips))
 
     -- so the run is the part of the arena at its place
     pub run-inside : runFrom s trips L i d + length (runWords s trips L i d) ≤ length (arenaOf (halfOf d) (x .originals) (x .replicas))
-    unfolding entryWords
     run-inside = omega (arith, run-from-read, run-length, slot-in .low, slot-in .high)
 
     pub run-part : take (length (runWords s trips L i d)) (drop (runFrom s trips L i d) (arenaOf (halfOf d) (x .originals) (x .replicas)))
@@ -106,7 +105,7 @@ module _ (s : Scale) (x : Index) (w : Indexed s x) where
 
     -- a run ends within the entries of the most trips in the most partitions each
     pub run-few : runFrom s trips L i d + length (runWords s trips L i d) ≤ entryWords * (mostTrips * mostPartitions)
-    unfolding runFrom runWords entryWords
+    unfolding runFrom runWords
     run-few =
         let h = halfOf d in
         let k = slotNumber L i (isAft d) in

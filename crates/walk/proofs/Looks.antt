@@ -46,7 +46,7 @@ none-kept true t = refl
 none-kept false t = refl
 
 no-rows : rows [] ≡ []
-unfolding rows upTo entryWords
+unfolding rows upTo
 no-rows = refl
 
 -- without entries it has no matches

@@ -109,7 +109,6 @@ module _ {A : Type 0} (p : A → Bool) where
 -- ---- what is cut off
 
 words-between : (lo to : ℕ) → entryWords * to - entryWords * lo ≡ entryWords * (to - lo)
-unfolding entryWords
 words-between lo to = omega arith
 
 -- the entries from lo up to `to`, where none before them and none after them passes
@@ -119,7 +118,6 @@ module _ (t : Trip → Bool) (part : List ℕ) (lo to : ℕ) (a : lo ≤ to) (b 
   later = drop (entryWords * lo) part
 
   long : length later / entryWords ≡ length part / entryWords - lo
-  unfolding entryWords
   long = rw length-drop (omega arith)
 
   front-fails : keep t (rows (take (entryWords * lo) part)) ≡ []
@@ -134,7 +132,6 @@ module _ (t : Trip → Bool) (part : List ℕ) (lo to : ℕ) (a : lo ≤ to) (b 
       rw at (front j (omega arith)))
 
   rest-fails : keep t (rows (drop (entryWords * (to - lo)) later)) ≡ []
-  unfolding entryWords
   rest-fails =
       let last = drop (entryWords * (to - lo)) later in
       let few : length (rows last) ≡ length part / entryWords - to =
@@ -147,7 +144,6 @@ module _ (t : Trip → Bool) (part : List ℕ) (lo to : ℕ) (a : lo ≤ to) (b 
       rw at (rest (lo + ((to - lo) + j)) (omega arith) (omega arith)))
 
   cut-keeps : keep t (rows (take (entryWords * to - entryWords * lo) (drop (entryWords * lo) part))) ≡ keep t (rows part)
-  unfolding entryWords
   cut-keeps =
       let size : entryWords * to - entryWords * lo ≡ entryWords * (to - lo) = words-between lo to in
       let middle = rows (take (entryWords * (to - lo)) later) in

@@ -1,6 +1,6 @@
 -- Each return is a link of the chain; past the last the question is answered.
 use mathlib.Core.Path.{_≡_, sym, _∙_}
-use mathlib.Core.Bool.{Bool, true, false, not, _&&_}
+use mathlib.Core.Bool.{true, false}
 use Rattle.ruler.specs.Ruler.{scale}
 use Rattle.layout.specs.Refusals.{tableOf, offRuler, backward}
 use Rattle.layout.specs.Calls.{index}

@@ -1,16 +1,16 @@
 -- The bounds and the plan are the question's; what the walk lists, sorted, is the answer.
-use mathlib.Core.Path.{_≡_, sym, ap, _∙_}
+use mathlib.Core.Path.{sym, ap, _∙_}
 use mathlib.Core.List.{List}
-use Prim.Native.Nat.{ℕ, _+_, _-_, _*_}
+use Prim.Native.Nat.{ℕ, _-_, _*_}
 use lib.ListN.{length, getD}
 use Rattle.lists.specs.Lists.{ascending}
 use Rattle.lists.proofs.Tests.{to-T}
-use Rattle.ruler.specs.Ruler.{scale, scaleOf}
+use Rattle.ruler.specs.Ruler.{scaleOf}
 use Rattle.ruler.proofs.Fair.{bounds}
 use Rattle.trip.specs.declared.Trip.{Trip}
 use Rattle.layout.specs.Words.{partitions}
 use Rattle.layout.specs.Answers.{answer}
-use Rattle.layout.specs.Refusals.{tableOf, roomTest}
+use Rattle.layout.specs.Refusals.{roomTest}
 use Rattle.layout.specs.Calls.{index}
 use Rattle.layout.proofs.Chains.{of-room}
 use Rattle.store.specs.Entries.{ids}

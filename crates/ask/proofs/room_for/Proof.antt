@@ -1,7 +1,7 @@
 -- The test of 7, made on the count where the trips alone do not settle it.
 use mathlib.Core.Path.{sym}
 use Rattle.layout.proofs.Chains.{has-room, no-room}
-use mathlib.Core.Path.{sym, ap, _∙_}
+use mathlib.Core.Path.{sym}
 use native.Mathlib.Omega.{arith}
 use borrow.Author.Needs.{needs}
 use Rattle.ask.proofs.room_for.Statement.{statement}

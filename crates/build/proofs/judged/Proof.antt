@@ -1,7 +1,7 @@
 -- One link of the chain after another.
 use mathlib.Core.Path.{sym, ap, _∙_}
 use borrow.Author.Tests.{not-true, not-false}
-use Rattle.layout.specs.Words.{entryWords, directoryLength}
+use Rattle.layout.specs.Words.{directoryLength}
 use Rattle.layout.specs.Refusals.{badSize}
 use Rattle.layout.proofs.RulerCells.{deep-ruler}
 use Rattle.build.proofs.Outcomes.{says-2, few-rows, says-3, says-bad, tested, says-7, says-0}
@@ -14,7 +14,7 @@ refused-requires : tie.Need-refused-requires
 refused-requires c κs = search needs
 
 returns : tie.Need-returns
-unfolding entryWords badSize
+unfolding badSize
 returns c =
     let g = c .before .before .before in
     let a = g .args in
@@ -32,7 +32,7 @@ refused-requires-2 : tie.Need-refused-requires-2
 refused-requires-2 c κs = search needs
 
 returns-2 : tie.Need-returns-2
-unfolding entryWords badSize
+unfolding badSize
 returns-2 c =
     let g = c .before .before .before .before .before .before in
     let a = g .args in
@@ -41,7 +41,7 @@ returns-2 c =
     (c .before .before .before .before .if1 .left) (λ e. c .before .if2 .taken (e ∙ sym long))
 
 rows-outcome-requires : tie.Need-rows-outcome-requires
-unfolding entryWords badSize
+unfolding badSize
 rows-outcome-requires c κs =
     let g = c .before .before .before .before .before in
     let a = g .args in
@@ -51,7 +51,7 @@ is-accepted-requires : tie.Need-is-accepted-requires
 is-accepted-requires c κs = search needs
 
 returns-3 : tie.Need-returns-3
-unfolding entryWords badSize
+unfolding badSize
 returns-3 c =
     let g = c .before .before .before .before .before .before .before .before in
     let a = g .args in
@@ -62,7 +62,7 @@ returns-3 c =
     (c .before .before .before .before .before .before .if1 .left) long _ (c .before .before .rows-outcome .ensures) bad
 
 lacks-room-requires : tie.Need-lacks-room-requires
-unfolding entryWords badSize
+unfolding badSize
 lacks-room-requires c κs =
     let g = c .before .before .before .before .before .before .before .before in
     let a = g .args in
@@ -76,7 +76,7 @@ refused-requires-3 : tie.Need-refused-requires-3
 refused-requires-3 c κs = search needs
 
 returns-4 : tie.Need-returns-4
-unfolding entryWords badSize
+unfolding badSize
 returns-4 c =
     let far = c .before .before .before .before .before .before .before .before .before in
     let g = far .before .before in
@@ -90,7 +90,7 @@ returns-4 c =
     (sym (c .before .before .lacks-room .ensures) ∙ c .before .if4 .taken)
 
 returns-5 : tie.Need-returns-5
-unfolding entryWords badSize
+unfolding badSize
 returns-5 c =
     let g = c .before .before .before .before .before .before .before .before .before .before in
     let a = g .args in

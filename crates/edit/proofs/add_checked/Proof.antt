@@ -5,7 +5,6 @@ use Rattle.ruler.specs.Ruler.{scale}
 use Rattle.layout.specs.Calls.{index}
 use Rattle.layout.proofs.Links.{is-accepted}
 use Rattle.edit.proofs.Chained.{add-refused, add-accepted}
-use native.Mathlib.Omega.{arith}
 use borrow.Author.Needs.{needs}
 use Rattle.edit.proofs.add_checked.Statement.{statement}
 use Rattle.edit.proofs.add_checked.Tie as tie

@@ -1,7 +1,6 @@
 -- Each half is lent as the index has it; both, come back, are the whole index again.
 use Rattle.layout.specs.Calls.{index}
 use Rattle.edit.proofs.Lent.{adding, first-lent, second-lent, both-back}
-use native.Mathlib.Omega.{arith}
 use borrow.Author.Needs.{needs}
 use Rattle.edit.proofs.put_in.Statement.{statement}
 use Rattle.edit.proofs.put_in.Tie as tie

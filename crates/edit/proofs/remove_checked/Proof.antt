@@ -1,5 +1,5 @@
 -- The place that the search gives is that of the id among the trips; the trip there is taken out.
-use mathlib.Core.Path.{sym, ap, _∙_}
+use mathlib.Core.Path.{ap, _∙_}
 use Prim.Native.Nat.{ℕ, _-_, _*_}
 use lib.ListN.{take}
 use Rattle.ruler.specs.Ruler.{scale}
@@ -46,7 +46,6 @@ part-find-id-start : tie.Need-part-find-id-start
 part-find-id-start c = search needs
 
 part-find-id-end : tie.Need-part-find-id-end
-unfolding entryWords
 part-find-id-end c = omega (arith, in-index (c .before .before .before .before .before))
 
 find-id-requires : tie.Need-find-id-requires
@@ -59,7 +58,6 @@ same-length : tie.Need-same-length
 same-length c = search needs
 
 returns : tie.Need-returns
-unfolding entryWords
 returns c =
     let g = c .before .before .before .before .before .before .before .before .before in
     let s = scale (g .args .ruler) in
@@ -70,11 +68,9 @@ returns c =
     not-found s x (g .args .id) _ (g .pre .1) w place _ (omega (arith, w .trips, c .before .if1 .taken)) (c .refused .ensures)
 
 trip-at-requires : tie.Need-trip-at-requires
-unfolding entryWords
 trip-at-requires c κs = omega (arith, in-index (c .before .before .before .before .before .before .before .before .before), c .before .if1 .left)
 
 take-out-requires : tie.Need-take-out-requires
-unfolding entryWords
 take-out-requires c κs =
     let g = c .before .before .before .before .before .before .before .before .before .before .before .before .before in
     let s = scale (g .args .ruler) in
@@ -96,7 +92,6 @@ same-length-4 : tie.Need-same-length-4
 same-length-4 c = search needs
 
 returns-2 : tie.Need-returns-2
-unfolding entryWords
 returns-2 c =
     let g = c .before .before .before .before .before .before .before .before .before .before .before .before .before .before .before .before .before .before .before .before
     in

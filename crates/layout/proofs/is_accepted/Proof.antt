@@ -1,6 +1,5 @@
 -- Each outcome has its line of `isAccepted`.
 use Rattle.layout.specs.Refusals.{isAccepted}
-use native.Mathlib.Omega.{arith}
 use borrow.Author.Needs.{needs}
 use Rattle.layout.proofs.is_accepted.Statement.{statement}
 use Rattle.layout.proofs.is_accepted.Tie as tie

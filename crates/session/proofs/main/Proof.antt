@@ -1,13 +1,13 @@
 -- The words lent are those of the session's start.
 use mathlib.Core.Path.{refl}
 use borrow.Author.Needs.{needs}
-use Rattle.layout.specs.Words.{directoryLength, partitions, entryWords}
+use Rattle.layout.specs.Words.{directoryLength, partitions}
 use Rattle.dialogue.specs.Session.{start}
 use Rattle.session.proofs.main.Statement.{statement}
 use Rattle.session.proofs.main.Tie as tie
 
 take-all-requires : tie.Need-take-all-requires
-unfolding start directoryLength partitions entryWords
+unfolding start directoryLength partitions
 take-all-requires c κs = refl
 
 take-end-requires : tie.Need-take-end-requires

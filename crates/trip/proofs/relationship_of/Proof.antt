@@ -1,6 +1,6 @@
 -- Each arm's number is its place in the list of names; past the arms, the list has no name.
 use mathlib.Core.Path.{_≡_, sym}
-use Prim.Native.Nat.{ℕ, _+_, _≤_, _<_, zero-le}
+use Prim.Native.Nat.{ℕ, _+_, _≤_, zero-le}
 use native.Mathlib.Omega.{arith}
 use lib.ListN.{List·getD-eq-default}
 use Rattle.trip.specs.Relationships.{inOrder}

@@ -2,7 +2,6 @@
 use mathlib.Core.Path.{_≡_, ap, _∙_}
 use Prim.Native.Nat.{_+_, _-_}
 use Rattle.ruler.specs.Ruler.{scaleOf}
-use Rattle.layout.specs.Words.{entryWords}
 use Rattle.layout.specs.Answers.{halfOf}
 use Rattle.layout.specs.Calls.{index}
 use Rattle.view.specs.declared.Place.{Place}
@@ -22,7 +21,6 @@ half-of-requires : tie.Need-half-of-requires
 half-of-requires c κs = search needs
 
 add-to : tie.Need-add-to
-unfolding entryWords
 add-to c =
     let a = c .before .before .before .before .before .before .before .args in
     let x = index (a .directory .now) (a .originals .now) (a .replicas .now) in

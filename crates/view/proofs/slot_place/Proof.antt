@@ -1,7 +1,6 @@
 -- Between two words of the directory.
 use mathlib.Core.Path.{refl}
 use Prim.Native.Nat.{_+_}
-use Rattle.layout.specs.Words.{entryWords}
 use Rattle.view.specs.Views.{slotPlace}
 use native.Mathlib.Omega.{arith}
 use borrow.Author.Needs.{needs}
@@ -39,7 +38,7 @@ sub-t5 : tie.Need-sub-t5
 sub-t5 c = search needs
 
 returns : tie.Need-returns
-unfolding entryWords slotPlace
+unfolding slotPlace
 returns c = refl
 
 pub slot-place-spec : {M : Type 1} → statement M

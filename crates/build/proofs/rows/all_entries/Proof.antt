@@ -25,15 +25,12 @@ abbrev μ-loop : tie.MeasureT-loop
 μ-loop ruler table n sum₀ i₀ sum i = n - i
 
 loop-holds : tie.Need-loop-holds Inv-loop μ-loop
-unfolding entryWords
 loop-holds c = (omega arith, omega arith, omega arith)
 
 trip-at-requires : tie.Need-trip-at-requires Inv-loop μ-loop
-unfolding entryWords
 trip-at-requires c κs = omega arith
 
 partitions-holding-requires : tie.Need-partitions-holding-requires Inv-loop μ-loop
-unfolding entryWords
 partitions-holding-requires c κs =
     let g = c .before .before .before .before in (
       g .pre .good,
@@ -45,7 +42,6 @@ cast-sum : tie.Need-cast-sum Inv-loop μ-loop
 cast-sum c = omega arith
 
 add-sum : tie.Need-add-sum Inv-loop μ-loop
-unfolding entryWords
 add-sum c =
     let g = c .before .before .before .before .before in
     omega (
@@ -64,7 +60,6 @@ loop-less : tie.Need-loop-less Inv-loop μ-loop
 loop-less c = omega arith
 
 loop-again : tie.Need-loop-again Inv-loop μ-loop
-unfolding entryWords
 loop-again c =
     let g = c .before .before .before .before .before in
     let k = c .before .before .before .loop in
@@ -82,7 +77,6 @@ loop-again c =
     )
 
 returns : tie.Need-returns Inv-loop μ-loop
-unfolding entryWords
 returns c =
     let g = c .before .before .before in
     let k = c .before .loop in

@@ -28,7 +28,6 @@ loop-holds : tie.Need-loop-holds Inv-loop μ-loop
 loop-holds c = (omega arith, refl)
 
 row-outcome-requires : tie.Need-row-outcome-requires Inv-loop μ-loop
-unfolding entryWords
 row-outcome-requires c κs =
     let g = c .before .before .before in
     (g .pre .0, ((omega arith, g .pre .1 .0), g .pre .1 .1))
@@ -37,7 +36,6 @@ is-accepted-requires : tie.Need-is-accepted-requires Inv-loop μ-loop
 is-accepted-requires c κs = omega arith
 
 returns : tie.Need-returns Inv-loop μ-loop
-unfolding entryWords
 returns c =
     let g = c .before .before .before .before .before .before in
     let k = c .before .before .before .before .loop in
@@ -55,7 +53,6 @@ loop-less : tie.Need-loop-less Inv-loop μ-loop
 loop-less c = omega arith
 
 loop-again : tie.Need-loop-again Inv-loop μ-loop
-unfolding entryWords
 loop-again c =
     let g = c .before .before .before .before .before .before in
     let k = c .before .before .before .before .loop in
@@ -69,7 +66,6 @@ loop-again c =
     )
 
 returns-2 : tie.Need-returns-2 Inv-loop μ-loop
-unfolding entryWords
 returns-2 c =
     let g = c .before .before .before in
     let k = c .before .loop in

@@ -1,7 +1,6 @@
 -- The originals are the rows, and the replicas the other entries.
 use mathlib.Core.Path.{refl}
 use Rattle.ruler.specs.Ruler.{scale}
-use Rattle.layout.specs.Words.{entryWords}
 use Rattle.layout.specs.Refusals.{mostPartitions, partitionsHolding}
 use Rattle.lists.proofs.Bounded.{sum-most}
 use Rattle.build.proofs.Judging.{rows-within, room-tested}
@@ -17,13 +16,11 @@ mul-result : tie.Need-mul-result
 mul-result c = search needs
 
 sub-result : tie.Need-sub-result
-unfolding entryWords
 sub-result c =
     let g = c .before .before in
     rows-within (g .args .ruler) (g .args .table .now) (g .pre) _ _ refl (c .all-entries .ensures)
 
 mul-result-2 : tie.Need-mul-result-2
-unfolding entryWords
 mul-result-2 c =
     let g = c .before .before in
     omega (
@@ -34,7 +31,6 @@ mul-result-2 c =
     )
 
 returns : tie.Need-returns
-unfolding entryWords
 returns c =
     let g = c .before .before in
     room-tested (g .args .ruler) (g .args .table .now) (g .pre) _ _ refl (c .all-entries .ensures) (g .args .originals) (g .args .replicas)

@@ -3,7 +3,6 @@ use mathlib.Core.Path.{_≡_, refl}
 use Prim.Native.Nat.{_≤_, _-_}
 use lib.ListN.{length}
 use native.Mathlib.Omega.{arith}
-use borrow.Author.Needs.{needs}
 use Rattle.cases.proofs.full_cases.fill_rows.Statement.{statement}
 use Rattle.cases.proofs.full_cases.fill_rows.Tie as tie
 

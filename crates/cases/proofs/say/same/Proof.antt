@@ -1,9 +1,8 @@
 -- The place is never past the end of either list.
-use Prim.Native.Nat.{_≤_, _-_, _*_, _+_, _/_}
-use lib.ListN.{length, length-set}
+use Prim.Native.Nat.{_≤_, _-_}
+use lib.ListN.{length}
 use mathlib.Core.Path.{_≡_}
 use native.Mathlib.Omega.{arith}
-use borrow.Author.Needs.{needs}
 use Rattle.cases.proofs.say.same.Statement.{statement}
 use Rattle.cases.proofs.say.same.Tie as tie
 

@@ -6,7 +6,6 @@ use lib.ListN.{length, drop, length-set}
 use lib.Seq.{sets, drop-length}
 use Rattle.lists.proofs.Stores.{sets-turn}
 use native.Mathlib.Omega.{arith}
-use borrow.Author.Needs.{needs}
 use Rattle.dialogue.proofs.reply.put.Statement.{statement}
 use Rattle.dialogue.proofs.reply.put.Tie as tie
 

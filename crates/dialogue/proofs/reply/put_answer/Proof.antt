@@ -1,6 +1,5 @@
 -- The ids of an accepted question, or its refusal.
 use Rattle.dialogue.specs.Reply.{answerBytes}
-use native.Mathlib.Omega.{arith}
 use borrow.Author.Needs.{needs}
 use Rattle.dialogue.proofs.reply.put_answer.Statement.{statement}
 use Rattle.dialogue.proofs.reply.put_answer.Tie as tie

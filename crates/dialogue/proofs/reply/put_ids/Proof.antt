@@ -3,7 +3,6 @@ use Rattle.dialogue.proofs.Replies.{Putting, putting-start, putting-tur
 use lib.ListN.{length, length-set}
 use Prim.Native.Nat.{_-_}
 use native.Mathlib.Omega.{arith}
-use borrow.Author.Needs.{needs}
 use Rattle.dialogue.proofs.reply.put_ids.Statement.{statement}
 use Rattle.dialogue.proofs.reply.put_ids.Tie as tie
 

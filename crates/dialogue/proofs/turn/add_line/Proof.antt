@@ -2,7 +2,6 @@
 use Rattle.dialogue.specs.Session.{turnOf}
 use Rattle.layout.specs.Calls.{index}
 use borrow.Author.Tests.{not-true, not-false}
-use native.Mathlib.Omega.{arith}
 use borrow.Author.Needs.{needs}
 use Rattle.dialogue.proofs.Turns.{done-then, done-else}
 use Rattle.dialogue.proofs.turn.add_line.Statement.{statement}

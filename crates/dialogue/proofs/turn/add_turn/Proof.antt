@@ -3,7 +3,6 @@ use Rattle.dialogue.proofs.Turns.{in-front, edited-done}
 use Rattle.layout.specs.Calls.{After, addOf}
 use Rattle.layout.specs.Words.{Index}
 use Rattle.ruler.specs.Ruler.{scaleOf}
-use native.Mathlib.Omega.{arith}
 use borrow.Author.Needs.{needs}
 use Rattle.dialogue.proofs.turn.add_turn.Statement.{statement}
 use Rattle.dialogue.proofs.turn.add_turn.Tie as tie

@@ -1,7 +1,6 @@
 -- Only the reply changes.
 use mathlib.Core.Path.{refl}
 use Rattle.dialogue.specs.Session.{badLine}
-use native.Mathlib.Omega.{arith}
 use borrow.Author.Needs.{needs}
 use Rattle.dialogue.proofs.turn.bad_turn.Statement.{statement}
 use Rattle.dialogue.proofs.turn.bad_turn.Tie as tie

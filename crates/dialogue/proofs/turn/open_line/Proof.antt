@@ -2,7 +2,6 @@
 use Rattle.dialogue.proofs.Turns.{not-deeper}
 use Rattle.dialogue.specs.Session.{turnOf}
 use Rattle.layout.specs.Calls.{index}
-use native.Mathlib.Omega.{arith}
 use borrow.Author.Needs.{needs}
 use Rattle.dialogue.proofs.turn.open_line.Statement.{statement}
 use Rattle.dialogue.proofs.turn.open_line.Tie as tie

@@ -1,7 +1,6 @@
 -- Each command has its own turn.
 use Rattle.dialogue.specs.Session.{turnOf}
 use Rattle.layout.specs.Calls.{index}
-use native.Mathlib.Omega.{arith}
 use borrow.Author.Needs.{needs}
 use Rattle.dialogue.proofs.turn.turn.Statement.{statement}
 use Rattle.dialogue.proofs.turn.turn.Tie as tie

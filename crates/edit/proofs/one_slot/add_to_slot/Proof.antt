@@ -1,6 +1,5 @@
 -- The place found is the trip's in the slot's order, and there is room there.
 use Rattle.edit.proofs.OneSlot.{room-at}
-use native.Mathlib.Omega.{arith}
 use borrow.Author.Needs.{needs}
 use Rattle.edit.proofs.one_slot.add_to_slot.Statement.{statement}
 use Rattle.edit.proofs.one_slot.add_to_slot.Tie as tie

@@ -1,5 +1,4 @@
 -- The part between the two words of the directory has the slot's rows, which are in order.
-use Rattle.layout.specs.Words.{entryWords}
 use Rattle.edit.proofs.OneSlot.{PartWords, part-words, part-ordered, part-place}
 use native.Mathlib.Omega.{arith}
 use borrow.Author.Needs.{needs}
@@ -11,69 +10,54 @@ in-words : (s : tie.Start) → PartWords (s .args .dir .now) (s .args .arena .no
 in-words s = part-words (s .args .dir .now) (s .args .arena .now) (s .pre .0) (s .args .half) (s .args .slot) (s .pre .1)
 
 mul-first : tie.Need-mul-first
-unfolding entryWords
 mul-first c = omega (arith, in-words (c .before .before))
 
 shared-slice-read-first : tie.Need-shared-slice-read-first
-unfolding entryWords
 shared-slice-read-first c = omega (arith, in-words (c .before .before .before))
 
 cast-first : tie.Need-cast-first
-unfolding entryWords
 cast-first c = omega (arith, in-words (c .before .before .before))
 
 mul-first-2 : tie.Need-mul-first-2
-unfolding entryWords
 mul-first-2 c = omega (arith, in-words (c .before .before .before))
 
 add-end : tie.Need-add-end
-unfolding entryWords
 add-end c = omega (arith, in-words (c .before .before .before))
 
 mul-end : tie.Need-mul-end
-unfolding entryWords
 mul-end c = omega (arith, in-words (c .before .before .before))
 
 shared-slice-read-end : tie.Need-shared-slice-read-end
-unfolding entryWords
 shared-slice-read-end c = omega (arith, in-words (c .before .before .before .before))
 
 cast-end : tie.Need-cast-end
-unfolding entryWords
 cast-end c = omega (arith, in-words (c .before .before .before .before))
 
 mul-end-2 : tie.Need-mul-end-2
-unfolding entryWords
 mul-end-2 c = omega (arith, in-words (c .before .before .before .before))
 
 mul-find-place : tie.Need-mul-find-place
-unfolding entryWords
 mul-find-place c = omega (arith, in-words (c .before .before .before .before))
 
 sub-find-place : tie.Need-sub-find-place
-unfolding entryWords
 sub-find-place c = omega (arith, in-words (c .before .before .before .before))
 
 part-find-place-start : tie.Need-part-find-place-start
-unfolding entryWords
 part-find-place-start c = omega (arith, in-words (c .before .before .before .before))
 
 part-find-place-end : tie.Need-part-find-place-end
-unfolding entryWords
 part-find-place-end c = omega (arith, in-words (c .before .before .before .before))
 
 subdivision-of-requires : tie.Need-subdivision-of-requires
 subdivision-of-requires c κs = search needs
 
 find-place-requires : tie.Need-find-place-requires
-unfolding entryWords
 find-place-requires c κs =
     let s = c .before .before .before .before .before .before in
     part-ordered (s .args .dir .now) (s .args .arena .now) (s .pre .0) (s .args .half) (s .args .slot) (s .pre .1) (c .subdivision-of .result)
     (c .subdivision-of .ensures)
 
 returns : tie.Need-returns
-unfolding entryWords
 returns c = λ ls o.
     let a = c .before .before .before .before .before .before .before .args in
     part-place (a .dir .now) (a .arena .now) ls (a .half) (a .slot) o (c .before .subdivision-of .result) (a .t) (c .find-place .result)

@@ -1,6 +1,5 @@
 -- The place found is the trip's in the slot's order, and its entry is there.
 use Rattle.edit.proofs.OneSlot.{there-at}
-use native.Mathlib.Omega.{arith}
 use borrow.Author.Needs.{needs}
 use Rattle.edit.proofs.one_slot.remove_from_slot.Statement.{statement}
 use Rattle.edit.proofs.one_slot.remove_from_slot.Tie as tie

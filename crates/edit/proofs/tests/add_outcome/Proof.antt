@@ -42,7 +42,6 @@ row-is : (c : tie.After-is-accepted) → c .before .trip-outcome .result
     ≡ rowTests (scale (c .before .before .before .before .before .before .before .before .before .args .ruler))
     (trips (c .before .before .before .before .before .before .before .before .before))
     (c .before .before .before .before .before .before .before .before .before .args .t) 0 Accepted
-unfolding entryWords
 row-is c =
     let g = c .before .before .before .before .before .before .before .before .before in
     let w = in-index g in
@@ -89,7 +88,7 @@ refused-requires : tie.Need-refused-requires
 refused-requires c κs = search needs
 
 returns : tie.Need-returns
-unfolding entryWords refuse
+unfolding refuse
 returns c =
     let g = c .before .before .before .before .before .before .before in
     let w = in-index g in
@@ -106,7 +105,6 @@ part-trip-outcome-start : tie.Need-part-trip-outcome-start
 part-trip-outcome-start c = search needs
 
 part-trip-outcome-end : tie.Need-part-trip-outcome-end
-unfolding entryWords
 part-trip-outcome-end c = omega (arith, in-index (c .before .before .before .before .before .before))
 
 trip-outcome-requires : tie.Need-trip-outcome-requires
@@ -116,7 +114,7 @@ is-accepted-requires : tie.Need-is-accepted-requires
 is-accepted-requires c κs = search needs
 
 returns-2 : tie.Need-returns-2
-unfolding entryWords refuse
+unfolding refuse
 returns-2 c =
     let g = c .before .before .before .before .before .before .before .before .before .before in
     let is = row-is (c .before) in
@@ -124,7 +122,7 @@ returns-2 c =
     is ∙ sym (add-row (scale (g .args .ruler)) (words g) (g .args .t) (g .pre .1) (in-index g) (few (c .before .before .before .before)) not-taken)
 
 lacks-room-requires : tie.Need-lacks-room-requires
-unfolding entryWords refuse
+unfolding refuse
 lacks-room-requires c κs =
     let g = c .before .before .before .before .before .before .before .before .before .before in
     let cells = cells-in (g .args .ruler) (g .pre .0) (g .args .t) (row-ok (c) .fits) in
@@ -134,7 +132,7 @@ refused-requires-2 : tie.Need-refused-requires-2
 refused-requires-2 c κs = search needs
 
 returns-3 : tie.Need-returns-3
-unfolding entryWords refuse
+unfolding refuse
 returns-3 c =
     let g = c .before .before .before .before .before .before .before .before .before .before .before .before .before in
     let row = row-ok (c .before .before .before) in
@@ -144,7 +142,7 @@ returns-3 c =
     (sym (c .before .before .lacks-room .ensures) ∙ c .before .if3 .taken) refl)
 
 lacks-room-requires-2 : tie.Need-lacks-room-requires-2
-unfolding entryWords refuse
+unfolding refuse
 lacks-room-requires-2 c κs =
     let g = c .before .before .before .before .before .before .before .before .before .before .before .before in
     let cells = cells-in (g .args .ruler) (g .pre .0) (g .args .t) (row-ok (c .before .before) .fits) in
@@ -154,7 +152,7 @@ refused-requires-3 : tie.Need-refused-requires-3
 refused-requires-3 c κs = search needs
 
 returns-4 : tie.Need-returns-4
-unfolding entryWords refuse
+unfolding refuse
 returns-4 c =
     let g = c .before .before .before .before .before .before .before .before .before .before .before .before .before .before .before in
     let row = row-ok (c .before .before .before .before .before) in
@@ -165,7 +163,7 @@ returns-4 c =
     (sym (c .before .before .lacks-room2 .ensures) ∙ c .before .if4 .taken))
 
 returns-5 : tie.Need-returns-5
-unfolding entryWords refuse
+unfolding refuse
 returns-5 c =
     let g = c .before .before .before .before .before .before .before .before .before .before .before .before .before .before in
     let row = row-ok (c .before .before .before .before) in

@@ -8,7 +8,6 @@ use Rattle.layout.proofs.Rows.{length-rows}
 use Rattle.edit.specs.Search.{placeOfId}
 use Rattle.edit.proofs.Reading.{row-id, search-hit, search-miss, search-end}
 use native.Mathlib.Omega.{arith}
-use borrow.Author.Needs.{needs}
 use Rattle.edit.proofs.tests.find_id.Statement.{statement}
 use Rattle.edit.proofs.tests.find_id.Tie as tie
 
@@ -31,7 +30,6 @@ shared-slice-read-if1 : tie.Need-shared-slice-read-if1 Inv-loop μ-loop
 shared-slice-read-if1 c = omega arith
 
 returns : tie.Need-returns Inv-loop μ-loop
-unfolding entryWords
 returns c =
     let g = c .before .before .before .before .args in
     let l = c .before .before .before .loop in
@@ -46,7 +44,6 @@ loop-less : tie.Need-loop-less Inv-loop μ-loop
 loop-less c = omega arith
 
 loop-again : tie.Need-loop-again Inv-loop μ-loop
-unfolding entryWords
 loop-again c =
     let g = c .before .before .before .before .args in
     let l = c .before .before .before .loop in
@@ -55,7 +52,6 @@ loop-again c =
     (omega arith, search-miss (g .id) (l .k) (rows p) (rw length-rows h) (l .inv .1) (ne-eqb _ _ (λ q. c .if1 .left (sym (row-id p (l .k) h) ∙ q))))
 
 returns-2 : tie.Need-returns-2 Inv-loop μ-loop
-unfolding entryWords
 returns-2 c =
     let g = c .before .before .args in
     let l = c .before .loop in

@@ -1,6 +1,4 @@
 -- The entries are those of the walk.
-use Rattle.layout.specs.Words.{entryWords}
-use native.Mathlib.Omega.{arith}
 use borrow.Author.Needs.{needs}
 use Rattle.edit.proofs.tests.lacks_room.Statement.{statement}
 use Rattle.edit.proofs.tests.lacks_room.Tie as tie
@@ -15,7 +13,6 @@ mul-result : tie.Need-mul-result
 mul-result c = search needs
 
 returns : tie.Need-returns
-unfolding entryWords
 returns c = rw (c .entries-of-trip .ensures .0)
 
 pub lacks-room-spec : {M : Type 1} → statement M

@@ -5,7 +5,7 @@ use lib.Dec.{ltb}
 use lib.ListN.{length}
 use borrow.Author.Tests.{lt-ltb, le-ltb, not-true, not-false}
 use Rattle.ruler.specs.Ruler.{scale}
-use Rattle.layout.specs.Words.{entryWords, rows}
+use Rattle.layout.specs.Words.{rows}
 use Rattle.layout.specs.Refusals.{refuse, hasId, mostPartitions, partitionsHolding, inTooMany}
 use Rattle.layout.proofs.Rows.{length-rows}
 use Rattle.layout.proofs.OneRow.{row-untimely, row-fits, row-decided}
@@ -38,7 +38,7 @@ refused-requires : tie.Need-refused-requires
 refused-requires c κs = search needs
 
 returns-2 : tie.Need-returns-2
-unfolding entryWords refuse
+unfolding refuse
 returns-2 c =
     let g = c .before .before .before .before .before .before .before .before .before in
     let t = g .args .t in
@@ -68,7 +68,7 @@ refused-requires-2 : tie.Need-refused-requires-2
 refused-requires-2 c κs = search needs
 
 returns-3 : tie.Need-returns-3
-unfolding entryWords refuse inTooMany
+unfolding refuse inTooMany
 returns-3 c =
     let g = c .before .before .before .before .before .before .before .before .before .before .before in
     let t = g .args .t in
@@ -85,7 +85,7 @@ returns-3 c =
     c .refused2 .ensures ∙ row-decided s ts t 0 _ times fine false true known many
 
 returns-4 : tie.Need-returns-4
-unfolding entryWords refuse inTooMany
+unfolding refuse inTooMany
 returns-4 c =
     let g = c .before .before .before .before .before .before .before .before .before .before in
     let t = g .args .t in

@@ -1,5 +1,5 @@
 -- A number has at most ten digits, so they have room.
-use mathlib.Core.Path.{_≡_, ap, _∙_}
+use mathlib.Core.Path.{ap, _∙_}
 use Prim.Native.Nat.{_-_, _≤_}
 use lib.ListN.{length, take, drop, length-take, length-drop}
 use Rattle.text.specs.Decimal.{decimal, Written}

@@ -1,5 +1,4 @@
 -- The four tests of the code, joined as in `inBounds`, pick the answer.
-use mathlib.Core.Path.{refl}
 use Rattle.ruler.specs.Ruler.{inBounds, judge}
 use Rattle.ruler.proofs.Ruler.new.Statement.{statement}
 use Rattle.ruler.proofs.Ruler.new.Tie as tie

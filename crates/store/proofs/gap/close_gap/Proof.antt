@@ -19,51 +19,39 @@ abbrev μ-loop : tie.MeasureT-loop
 μ-loop arena₀ used at end i₀ arena i = entryWords * used - i
 
 mul-end : tie.Need-mul-end Inv-loop μ-loop
-unfolding entryWords
 mul-end c = omega arith
 
 mul-i : tie.Need-mul-i Inv-loop μ-loop
-unfolding entryWords
 mul-i c = omega arith
 
 loop-holds : tie.Need-loop-holds Inv-loop μ-loop
-unfolding entryWords
 loop-holds c = (omega arith, omega arith, refl, refl)
 
 add-loop : tie.Need-add-loop Inv-loop μ-loop
-unfolding entryWords
 add-loop c = omega arith
 
 add-arena : tie.Need-add-arena Inv-loop μ-loop
-unfolding entryWords
 add-arena c = omega arith
 
 mul-arena : tie.Need-mul-arena Inv-loop μ-loop
-unfolding entryWords
 mul-arena c = omega arith
 
 slice-read-arena : tie.Need-slice-read-arena Inv-loop μ-loop
-unfolding entryWords
 slice-read-arena c = omega arith
 
 mul-arena-2 : tie.Need-mul-arena-2 Inv-loop μ-loop
-unfolding entryWords
 mul-arena-2 c = omega arith
 
 slice-write-arena : tie.Need-slice-write-arena Inv-loop μ-loop
-unfolding entryWords
 slice-write-arena c = omega arith
 
 add-i : tie.Need-add-i Inv-loop μ-loop
-unfolding entryWords
 add-i c = omega arith
 
 loop-less : tie.Need-loop-less Inv-loop μ-loop
-unfolding entryWords
 loop-less c = omega arith
 
 loop-again : tie.Need-loop-again Inv-loop μ-loop
-unfolding entryWords
 loop-again c =
     let at = c .before .before .loop in
     let used = entryWords * c .before .before .before .before .args .used in (
@@ -74,34 +62,27 @@ loop-again c =
     )
 
 mul-clear : tie.Need-mul-clear Inv-loop μ-loop
-unfolding entryWords
 mul-clear c = omega arith
 
 sub-clear : tie.Need-sub-clear Inv-loop μ-loop
-unfolding entryWords
 sub-clear c = omega arith
 
 part-clear-start : tie.Need-part-clear-start Inv-loop μ-loop
-unfolding entryWords
 part-clear-start c = omega arith
 
 part-clear-end : tie.Need-part-clear-end Inv-loop μ-loop
-unfolding entryWords
 part-clear-end c = omega arith
 
 clear-requires : tie.Need-clear-requires Inv-loop μ-loop
-unfolding entryWords
 clear-requires c κs = omega arith
 
 same-length : tie.Need-same-length Inv-loop μ-loop
-unfolding entryWords
 same-length c =
     let at = c .before .before .before .before .before .loop in
     let used = entryWords * c .before .before .before .before .before .before .before .args .used in
     same-len-mid (at .i) (used - at .i) (at .arena) (c .before .before .clear .last .0) (c .before .before .clear .kept .0) ∙ at .inv .2
 
 returns : tie.Need-returns Inv-loop μ-loop
-unfolding entryWords
 returns c =
     let at = c .before .before .before .before .before .loop in
     let used = entryWords * c .before .before .before .before .before .before .before .args .used in

@@ -17,47 +17,36 @@ abbrev μ-loop : tie.MeasureT-loop
 μ-loop arena₀ used at first i₀ arena i = i
 
 mul-first : tie.Need-mul-first Inv-loop μ-loop
-unfolding entryWords
 mul-first c = omega arith
 
 mul-i : tie.Need-mul-i Inv-loop μ-loop
-unfolding entryWords
 mul-i c = omega arith
 
 loop-holds : tie.Need-loop-holds Inv-loop μ-loop
-unfolding entryWords
 loop-holds c = (omega arith, omega arith, refl, refl)
 
 sub-i : tie.Need-sub-i Inv-loop μ-loop
-unfolding entryWords
 sub-i c = omega arith
 
 mul-arena : tie.Need-mul-arena Inv-loop μ-loop
-unfolding entryWords
 mul-arena c = omega arith
 
 slice-read-arena : tie.Need-slice-read-arena Inv-loop μ-loop
-unfolding entryWords
 slice-read-arena c = omega arith
 
 add-arena : tie.Need-add-arena Inv-loop μ-loop
-unfolding entryWords
 add-arena c = omega arith
 
 mul-arena-2 : tie.Need-mul-arena-2 Inv-loop μ-loop
-unfolding entryWords
 mul-arena-2 c = omega arith
 
 slice-write-arena : tie.Need-slice-write-arena Inv-loop μ-loop
-unfolding entryWords
 slice-write-arena c = omega arith
 
 loop-less : tie.Need-loop-less Inv-loop μ-loop
-unfolding entryWords
 loop-less c = omega arith
 
 loop-again : tie.Need-loop-again Inv-loop μ-loop
-unfolding entryWords
 loop-again c =
     let at = c .before .before .loop in
     let first = entryWords * c .before .before .before .args .at in
@@ -72,7 +61,6 @@ same-length : tie.Need-same-length Inv-loop μ-loop
 same-length c = c .before .loop .inv .2
 
 returns : tie.Need-returns Inv-loop μ-loop
-unfolding entryWords
 returns c =
     let at = c .before .loop in
     let first = entryWords * c .before .before .args .at in

@@ -16,36 +16,29 @@ abbrev μ-loop : tie.MeasureT-loop
 μ-loop part d t low₀ high₀ low high = high - low
 
 loop-holds : tie.Need-loop-holds Inv-loop μ-loop
-unfolding entryWords
 loop-holds c =
     let start = c .before in
     (search-start (start .args .part .now) (start .args .d) (start .args .t) (start .pre), omega arith)
 
 sub-mid : tie.Need-sub-mid Inv-loop μ-loop
-unfolding entryWords
 sub-mid c = omega arith
 
 add-mid : tie.Need-add-mid Inv-loop μ-loop
-unfolding entryWords
 add-mid c = omega arith
 
 trip-at-requires : tie.Need-trip-at-requires Inv-loop μ-loop
-unfolding entryWords
 trip-at-requires c κs = omega arith
 
 precedes-requires : tie.Need-precedes-requires Inv-loop μ-loop
 precedes-requires c κs = search needs
 
 add-low : tie.Need-add-low Inv-loop μ-loop
-unfolding entryWords
 add-low c = omega arith
 
 loop-less : tie.Need-loop-less Inv-loop μ-loop
-unfolding entryWords
 loop-less c = omega arith
 
 loop-again : tie.Need-loop-again Inv-loop μ-loop
-unfolding entryWords
 loop-again c =
     let start = c .before .before .before .before .before .before in
     let read = c .before .before in
@@ -57,11 +50,9 @@ loop-again c =
     )
 
 loop-less-2 : tie.Need-loop-less-2 Inv-loop μ-loop
-unfolding entryWords
 loop-less-2 c = omega arith
 
 loop-again-2 : tie.Need-loop-again-2 Inv-loop μ-loop
-unfolding entryWords
 loop-again-2 c =
     let start = c .before .before .before .before .before .before in
     let read = c .before .before in

@@ -1,6 +1,5 @@
 -- What the words of a half with room say makes each step safe; the gap, the trip and the counts make the slot with the trip.
 use mathlib.Core.Path.{refl}
-use Rattle.layout.specs.Words.{entryWords}
 use Rattle.store.proofs.Slots.{RoomWords, room-words, room-inserted}
 use native.Mathlib.Omega.{arith}
 use borrow.Author.Needs.{needs}
@@ -12,46 +11,36 @@ in-words : (s : tie.Start) → RoomWords (s .args .dir .now) (s .args .arena .no
 in-words s = room-words (s .args .dir .now) (s .args .arena .now) (s .pre .0) (s .args .slot) (s .args .pos) (s .pre .1)
 
 sub-last : tie.Need-sub-last
-unfolding entryWords
 sub-last c = omega (arith, in-words (c .before .before))
 
 add-next : tie.Need-add-next
-unfolding entryWords
 add-next c = omega (arith, in-words (c .before .before))
 
 mul-used : tie.Need-mul-used
 mul-used c = search needs
 
 slice-read-used : tie.Need-slice-read-used
-unfolding entryWords
 slice-read-used c = omega (arith, in-words (c .before .before .before))
 
 cast-used : tie.Need-cast-used
-unfolding entryWords
 cast-used c = omega (arith, in-words (c .before .before .before))
 
 mul-at : tie.Need-mul-at
-unfolding entryWords
 mul-at c = omega (arith, in-words (c .before .before .before))
 
 slice-read-at : tie.Need-slice-read-at
-unfolding entryWords
 slice-read-at c = omega (arith, in-words (c .before .before .before .before))
 
 cast-at : tie.Need-cast-at
-unfolding entryWords
 cast-at c = omega (arith, in-words (c .before .before .before .before))
 
 add-at : tie.Need-add-at
-unfolding entryWords
 add-at c = omega (arith, in-words (c .before .before .before .before))
 
 open-gap-requires : tie.Need-open-gap-requires
-unfolding entryWords
 open-gap-requires c κs = omega (arith, in-words (c .before .before .before .before .before))
 
 put-trip-requires : tie.Need-put-trip-requires
-unfolding entryWords
 put-trip-requires c κs =
     omega (arith, in-words (c .before .before .before .before .before .before .before .before .before), c .before .before .before .open-gap .kept .0)
 

@@ -1,6 +1,5 @@
 -- What the words of a half with the entry say makes each step safe; the gap closed and the counts make the slot without it.
 use mathlib.Core.Path.{refl}
-use Rattle.layout.specs.Words.{entryWords}
 use Rattle.store.proofs.Slots.{ThereWords, there-words, there-removed}
 use native.Mathlib.Omega.{arith}
 use borrow.Author.Needs.{needs}
@@ -12,42 +11,33 @@ in-words : (s : tie.Start) → ThereWords (s .args .dir .now) (s .args .arena .n
 in-words s = there-words (s .args .dir .now) (s .args .arena .now) (s .pre .0) (s .args .slot) (s .args .pos) (s .pre .1)
 
 sub-last : tie.Need-sub-last
-unfolding entryWords
 sub-last c = omega (arith, in-words (c .before .before))
 
 add-next : tie.Need-add-next
-unfolding entryWords
 add-next c = omega (arith, in-words (c .before .before))
 
 mul-used : tie.Need-mul-used
 mul-used c = search needs
 
 slice-read-used : tie.Need-slice-read-used
-unfolding entryWords
 slice-read-used c = omega (arith, in-words (c .before .before .before))
 
 cast-used : tie.Need-cast-used
-unfolding entryWords
 cast-used c = omega (arith, in-words (c .before .before .before))
 
 mul-gone : tie.Need-mul-gone
-unfolding entryWords
 mul-gone c = omega (arith, in-words (c .before .before .before))
 
 slice-read-gone : tie.Need-slice-read-gone
-unfolding entryWords
 slice-read-gone c = omega (arith, in-words (c .before .before .before .before))
 
 cast-gone : tie.Need-cast-gone
-unfolding entryWords
 cast-gone c = omega (arith, in-words (c .before .before .before .before))
 
 add-gone : tie.Need-add-gone
-unfolding entryWords
 add-gone c = omega (arith, in-words (c .before .before .before .before))
 
 close-gap-requires : tie.Need-close-gap-requires
-unfolding entryWords
 close-gap-requires c κs = omega (arith, in-words (c .before .before .before .before .before))
 
 one-less-from-requires : tie.Need-one-less-from-requires

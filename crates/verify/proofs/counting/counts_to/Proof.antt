@@ -6,7 +6,7 @@ use lib.ListN.{drop}
 use borrow.Author.Tests.{not-true, not-false}
 use Rattle.lists.specs.Lists.{sumOver}
 use Rattle.ruler.specs.Ruler.{scale}
-use Rattle.layout.specs.Words.{entryWords, tripAt, rows}
+use Rattle.layout.specs.Words.{tripAt, rows}
 use Rattle.layout.specs.Refusals.{mostPartitions, partitionsHolding}
 use Rattle.layout.proofs.Few.{never-eleven}
 use Rattle.layout.proofs.RulerCells.{deep-ruler}
@@ -32,14 +32,13 @@ loop-holds : tie.Need-loop-holds Inv-loop μ-loop
 loop-holds c = (omega arith, omega arith, refl, omega arith)
 
 trip-at-requires : tie.Need-trip-at-requires Inv-loop μ-loop
-unfolding entryWords
 trip-at-requires c κs = omega arith
 
 fits-requires : tie.Need-fits-requires Inv-loop μ-loop
 fits-requires c κs = c .before .before .before .before .pre .0
 
 returns : tie.Need-returns Inv-loop μ-loop
-unfolding entryWords countsTo
+unfolding countsTo
 returns c =
     let g = c .before .before .before .before .before .before .args in
     let k = c .before .before .before .before .loop in
@@ -59,7 +58,6 @@ cast-sum : tie.Need-cast-sum Inv-loop μ-loop
 cast-sum c = omega arith
 
 add-sum : tie.Need-add-sum Inv-loop μ-loop
-unfolding entryWords
 add-sum c =
     let g = c .before .before .before .before .before .before .before in
     let few = never-eleven (scale (g .args .ruler)) (c .before .before .before .trip-at .result) (deep-ruler (g .args .ruler) (g .pre .0)) in
@@ -72,7 +70,6 @@ loop-less : tie.Need-loop-less Inv-loop μ-loop
 loop-less c = omega arith
 
 loop-again : tie.Need-loop-again Inv-loop μ-loop
-unfolding entryWords
 loop-again c =
     let g = c .before .before .before .before .before .before .before in
     let s = scale (g .args .ruler) in
@@ -89,7 +86,7 @@ loop-again c =
     )
 
 returns-2 : tie.Need-returns-2 Inv-loop μ-loop
-unfolding entryWords countsTo
+unfolding countsTo
 returns-2 c =
     let g = c .before .before .before .args in
     let s = scale (g .ruler) in

@@ -5,7 +5,7 @@ use Prim.Native.Nat.{_-_}
 use lib.ListN.{drop}
 use borrow.Author.Tests.{not-true, not-false}
 use Rattle.ruler.specs.Ruler.{scale}
-use Rattle.layout.specs.Words.{entryWords, tripAt, rows, order}
+use Rattle.layout.specs.Words.{tripAt, rows, order}
 use Rattle.verify.specs.Passing.{after, inRow}
 use Rattle.verify.specs.Local.{standsAt}
 use Rattle.verify.proofs.Passes.{row-empty, row-first, row-fails, row-more, row-stop, row-end}
@@ -22,21 +22,18 @@ abbrev μ-loop : tie.MeasureT-loop
 μ-loop ruler d partition part n last₀ k₀ last k = n - k
 
 returns : tie.Need-returns Inv-loop μ-loop
-unfolding entryWords
 returns c =
     let g = c .before .before .args in
     let p = standsAt (scale (g .ruler)) (g .d) (g .partition .0) (g .partition .1) in
     sym (row-empty (g .part .now) p (order (g .d)) (omega arith))
 
 trip-at-requires : tie.Need-trip-at-requires Inv-loop μ-loop
-unfolding entryWords
 trip-at-requires c κs = omega arith
 
 stands-requires : tie.Need-stands-requires Inv-loop μ-loop
 stands-requires c κs = c .before .before .before .pre
 
 returns-2 : tie.Need-returns-2 Inv-loop μ-loop
-unfolding entryWords
 returns-2 c =
     let g = c .before .before .before .before .before .args in
     let p = standsAt (scale (g .ruler)) (g .d) (g .partition .0) (g .partition .1) in
@@ -45,7 +42,6 @@ returns-2 c =
     sym (row-fails (g .part .now) p (order (g .d)) (omega arith) fails)
 
 loop-holds : tie.Need-loop-holds Inv-loop μ-loop
-unfolding entryWords
 loop-holds c =
     let g = c .before .before .before .before .before .args in
     let p = standsAt (scale (g .ruler)) (g .d) (g .partition .0) (g .partition .1) in
@@ -54,7 +50,6 @@ loop-holds c =
     rw (c .before .before .trip-at .ensures) (row-first (g .part .now) p (order (g .d)) (omega arith) passes)
 
 trip-at-requires-2 : tie.Need-trip-at-requires-2 Inv-loop μ-loop
-unfolding entryWords
 trip-at-requires-2 c κs = omega arith
 
 stands-requires-2 : tie.Need-stands-requires-2 Inv-loop μ-loop
@@ -64,7 +59,6 @@ precedes-requires : tie.Need-precedes-requires Inv-loop μ-loop
 precedes-requires c κs = tt
 
 returns-3 : tie.Need-returns-3 Inv-loop μ-loop
-unfolding entryWords
 returns-3 c =
     let g = c .before .before .before .before .before .before .before .before .before .before .before .args in
     let p = standsAt (scale (g .ruler)) (g .d) (g .partition .0) (g .partition .1) in
@@ -85,7 +79,6 @@ loop-less : tie.Need-loop-less Inv-loop μ-loop
 loop-less c = omega arith
 
 loop-again : tie.Need-loop-again Inv-loop μ-loop
-unfolding entryWords
 loop-again c =
     let g = c .before .before .before .before .before .before .before .before .before .before .before .args in
     let p = standsAt (scale (g .ruler)) (g .d) (g .partition .0) (g .partition .1) in
@@ -98,7 +91,6 @@ loop-again c =
     rw read (row-more (g .part .now) p (order (g .d)) (k .last) (k .k) (omega arith) passes ∙ k .inv)
 
 returns-4 : tie.Need-returns-4 Inv-loop μ-loop
-unfolding entryWords
 returns-4 c =
     let g = c .before .before .before .before .before .before .before .args in
     let p = standsAt (scale (g .ruler)) (g .d) (g .partition .0) (g .partition .1) in

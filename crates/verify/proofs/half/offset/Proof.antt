@@ -1,6 +1,5 @@
 -- Whole entries before the slot.
 use mathlib.Core.Path.{refl}
-use Rattle.layout.specs.Words.{entryWords}
 use native.Mathlib.Omega.{arith}
 use borrow.Author.Needs.{needs}
 use Rattle.verify.proofs.half.offset.Statement.{statement}
@@ -19,7 +18,6 @@ mul-result-2 : tie.Need-mul-result-2
 mul-result-2 c = omega (arith, c .shared-slice-known .given (c .before .args .k))
 
 returns : tie.Need-returns
-unfolding entryWords
 returns c = refl
 
 pub offset-spec : {M : Type 1} → statement M

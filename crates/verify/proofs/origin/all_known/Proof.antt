@@ -5,7 +5,7 @@ use Prim.Native.Nat.{_-_}
 use lib.ListN.{drop}
 use borrow.Author.Tests.{not-true, not-false}
 use Rattle.ruler.specs.Ruler.{scale}
-use Rattle.layout.specs.Words.{entryWords, tripAt, rows}
+use Rattle.layout.specs.Words.{tripAt, rows}
 use Rattle.verify.specs.Passing.{each}
 use Rattle.verify.specs.Local.{isKnown}
 use Rattle.verify.proofs.Passes.{each-more, each-stop, each-end}
@@ -25,14 +25,12 @@ loop-holds : tie.Need-loop-holds Inv-loop μ-loop
 loop-holds c = refl
 
 trip-at-requires : tie.Need-trip-at-requires Inv-loop μ-loop
-unfolding entryWords
 trip-at-requires c κs = omega arith
 
 is-known-requires : tie.Need-is-known-requires Inv-loop μ-loop
 is-known-requires c κs = c .before .before .before .before .before .before .pre
 
 returns : tie.Need-returns Inv-loop μ-loop
-unfolding entryWords
 returns c =
     let g = c .before .before .before .before .before .before .before .before .args in
     let p = isKnown (scale (g .ruler)) (g .dir .now) (g .originals .now) in
@@ -49,7 +47,6 @@ loop-less : tie.Need-loop-less Inv-loop μ-loop
 loop-less c = omega arith
 
 loop-again : tie.Need-loop-again Inv-loop μ-loop
-unfolding entryWords
 loop-again c =
     let g = c .before .before .before .before .before .before .before .before .args in
     let p = isKnown (scale (g .ruler)) (g .dir .now) (g .originals .now) in
@@ -60,7 +57,6 @@ loop-again c =
     each-more (g .part .now) p (k .k) (omega arith) passes ∙ k .inv
 
 returns-2 : tie.Need-returns-2 Inv-loop μ-loop
-unfolding entryWords
 returns-2 c =
     let g = c .before .before .before .before .before .args in
     let p = isKnown (scale (g .ruler)) (g .dir .now) (g .originals .now) in

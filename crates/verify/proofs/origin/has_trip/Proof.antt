@@ -1,5 +1,4 @@
 -- The trip stands at its place or nowhere.
-use Rattle.layout.specs.Words.{entryWords}
 use Rattle.verify.proofs.Known.{found-there, found-nowhere}
 use native.Mathlib.Omega.{arith}
 use borrow.Author.Needs.{needs}
@@ -10,21 +9,18 @@ find-place-requires : tie.Need-find-place-requires
 find-place-requires c κs = search needs
 
 trip-at-requires : tie.Need-trip-at-requires
-unfolding entryWords
 trip-at-requires c κs = omega arith
 
 same-trip-requires : tie.Need-same-trip-requires
 same-trip-requires c κs = search needs
 
 returns : tie.Need-returns
-unfolding entryWords
 returns c =
     let g = c .before .before .before .before .before in
     let place = c .before .before .before .find-place .ensures in
     rw (c .same-trip .ensures, c .before .trip-at .ensures) (found-there (g .args .part .now) (g .args .t) (g .pre) _ place (omega arith))
 
 returns-2 : tie.Need-returns-2
-unfolding entryWords
 returns-2 c =
     let g = c .before .before .before in
     found-nowhere (g .args .part .now) (g .args .t) (g .pre) _ (c .before .find-place .ensures) (omega arith)

@@ -1,6 +1,5 @@
 -- All of the part, or those that pass.
 use mathlib.Core.Path.{sym}
-use Rattle.layout.specs.Words.{entryWords}
 use Rattle.layout.proofs.Rows.{length-rows}
 use borrow.Author.Needs.{needs}
 use Rattle.plan.specs.Plan.{keepUnless}
@@ -8,7 +7,7 @@ use Rattle.walk.proofs.count.count_part.Statement.{statement}
 use Rattle.walk.proofs.count.count_part.Tie as tie
 
 returns : tie.Need-returns
-unfolding keepUnless entryWords
+unfolding keepUnless
 returns c = rw (c .if1 .taken) (sym (length-rows (c .before .before .args .part .now)))
 
 count-tested-requires : tie.Need-count-tested-requires

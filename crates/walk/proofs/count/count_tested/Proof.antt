@@ -5,7 +5,7 @@ use mathlib.Core.Logic.{⊎-elim}
 use Prim.Native.Nat.{_-_, _≤_}
 use lib.ListN.{length}
 use Rattle.lists.proofs.Kept.{kept-few}
-use Rattle.layout.specs.Words.{entryWords, tripAt}
+use Rattle.layout.specs.Words.{tripAt}
 use Rattle.plan.specs.Bounds.{inside}
 use Rattle.walk.proofs.Turns.{found, found-none, found-all, count-hit, count-miss}
 use native.Mathlib.Omega.{arith}
@@ -23,14 +23,12 @@ loop-holds : tie.Need-loop-holds Inv-loop μ-loop
 loop-holds c = (omega arith, sym (ap length (found-none _ _)))
 
 trip-at-requires : tie.Need-trip-at-requires Inv-loop μ-loop
-unfolding entryWords
 trip-at-requires c κs = omega arith
 
 hold-requires : tie.Need-hold-requires Inv-loop μ-loop
 hold-requires c κs = search needs
 
 add-count : tie.Need-add-count Inv-loop μ-loop
-unfolding entryWords
 add-count c = omega (
   arith,
   kept-few (inside (c .before .before .before .before .before .before .args .bounds))
@@ -44,7 +42,6 @@ loop-less : tie.Need-loop-less Inv-loop μ-loop
 loop-less c = omega arith
 
 loop-again : tie.Need-loop-again Inv-loop μ-loop
-unfolding entryWords
 loop-again c =
     let g = c .before .before .before .before .before .before .args in
     let i = c .before .before .before .before .loop .i in
@@ -56,7 +53,6 @@ loop-again c =
     (c .if1 .came)
 
 returns : tie.Need-returns Inv-loop μ-loop
-unfolding entryWords
 returns c = c .before .loop .inv .1 ∙ ap length (found-all _ _ _ (omega arith))
 
 pub count-tested-spec : {M : Type 1} → statement M

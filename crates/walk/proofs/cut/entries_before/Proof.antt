@@ -1,11 +1,10 @@
 -- What is earlier stands before what is not; the two meet where the search ends.
-use mathlib.Core.Path.{_≡_, ap, _∙_}
+use mathlib.Core.Path.{_≡_}
 use mathlib.Core.Bool.{true, false}
 use Prim.Native.Nat.{_+_, _-_, _/_, _≤_}
 use lib.ListN.{length}
-use Rattle.trip.specs.declared.Trip.{Trip}
 use Rattle.layout.specs.Words.{entryWords, tripAt}
-use Rattle.walk.specs.Cut.{timeOf, earlierThan}
+use Rattle.walk.specs.Cut.{earlierThan}
 use Rattle.walk.proofs.Searched.{Meeting, search-start, search-up, search-down, search-end}
 use native.Mathlib.Omega.{arith}
 use borrow.Author.Needs.{needs}
@@ -19,18 +18,15 @@ abbrev μ-loop : tie.MeasureT-loop
 μ-loop ends limit part lo₀ hi₀ lo hi = hi - lo
 
 loop-holds : tie.Need-loop-holds Inv-loop μ-loop
-unfolding entryWords
 loop-holds c = let g = c .before in (search-start (g .args .ends) (g .args .limit) (g .args .part .now) (g .pre), omega arith)
 
 sub-mid : tie.Need-sub-mid Inv-loop μ-loop
 sub-mid c = omega arith
 
 add-mid : tie.Need-add-mid Inv-loop μ-loop
-unfolding entryWords
 add-mid c = omega arith
 
 trip-at-requires : tie.Need-trip-at-requires Inv-loop μ-loop
-unfolding entryWords
 trip-at-requires c κs = omega arith
 
 time-of-requires : tie.Need-time-of-requires Inv-loop μ-loop
@@ -40,14 +36,12 @@ before-requires : tie.Need-before-requires Inv-loop μ-loop
 before-requires c κs = search needs
 
 add-lo : tie.Need-add-lo Inv-loop μ-loop
-unfolding entryWords
 add-lo c = omega arith
 
 loop-less : tie.Need-loop-less Inv-loop μ-loop
 loop-less c = omega arith
 
 loop-again : tie.Need-loop-again Inv-loop μ-loop
-unfolding entryWords
 loop-again c =
     let g = c .before .before .before .before .before .before .before in
     let k = c .before .before .before .before .before .loop in
@@ -63,7 +57,6 @@ loop-less-2 : tie.Need-loop-less-2 Inv-loop μ-loop
 loop-less-2 c = omega arith
 
 loop-again-2 : tie.Need-loop-again-2 Inv-loop μ-loop
-unfolding entryWords
 loop-again-2 c =
     let g = c .before .before .before .before .before .before .before in
     let k = c .before .before .before .before .before .loop in

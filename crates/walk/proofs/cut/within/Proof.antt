@@ -1,6 +1,4 @@
 -- The entries in front are too early, those behind too late, and those between in time.
-use mathlib.Core.Path.{_≡_}
-use Rattle.layout.specs.Words.{entryWords}
 use Rattle.walk.proofs.Searched.{within-is}
 use native.Mathlib.Omega.{arith}
 use borrow.Author.Needs.{needs}
@@ -17,31 +15,24 @@ entries-before-requires-2 : tie.Need-entries-before-requires-2
 entries-before-requires-2 c κs = search needs
 
 mul-result : tie.Need-mul-result
-unfolding entryWords
 mul-result c = omega arith
 
 mul-result-2 : tie.Need-mul-result-2
-unfolding entryWords
 mul-result-2 c = omega arith
 
 mul-result-3 : tie.Need-mul-result-3
-unfolding entryWords
 mul-result-3 c = omega arith
 
 sub-result : tie.Need-sub-result
-unfolding entryWords
 sub-result c = omega arith
 
 part-result-start : tie.Need-part-result-start
-unfolding entryWords
 part-result-start c = omega arith
 
 part-result-end : tie.Need-part-result-end
-unfolding entryWords
 part-result-end c = omega arith
 
 returns : tie.Need-returns
-unfolding entryWords
 returns c =
     let g = c .before .before .before .before .before .before .args in
     let from = rw (c .before .before .before .before .span-of .ensures) at (c .before .before .before .entries-before .ensures) in
@@ -49,31 +40,24 @@ returns c =
     within-is (g .ends) (g .bounds) (g .part .now) _ _ _ from until (omega arith) (omega arith) (from .inside) (λ j h k. omega arith)
 
 mul-result-4 : tie.Need-mul-result-4
-unfolding entryWords
 mul-result-4 c = omega arith
 
 mul-result-5 : tie.Need-mul-result-5
-unfolding entryWords
 mul-result-5 c = omega arith
 
 mul-result-6 : tie.Need-mul-result-6
-unfolding entryWords
 mul-result-6 c = omega arith
 
 sub-result-2 : tie.Need-sub-result-2
-unfolding entryWords
 sub-result-2 c = omega arith
 
 part-result-start-2 : tie.Need-part-result-start-2
-unfolding entryWords
 part-result-start-2 c = omega arith
 
 part-result-end-2 : tie.Need-part-result-end-2
-unfolding entryWords
 part-result-end-2 c = omega arith
 
 returns-2 : tie.Need-returns-2
-unfolding entryWords
 returns-2 c =
     let g = c .before .before .before .before .before .before .args in
     let from = rw (c .before .before .before .before .span-of .ensures) at (c .before .before .before .entries-before .ensures) in

@@ -1,5 +1,5 @@
 -- The ids of the looks passed stand in the list's first words; each look lists into the rest.
-use mathlib.Core.Path.{_≡_, refl, ap, _∙_}
+use mathlib.Core.Path.{_≡_, refl, ap}
 use Prim.Native.Nat.{_-_, _≤_}
 use lib.ListN.{length}
 use Rattle.lists.specs.Lists.{joined}

@@ -1,11 +1,11 @@
 -- The ids of the matches among the entries passed stand in the list's first words.
-use mathlib.Core.Path.{_≡_, refl, sym, ap, _∙_}
+use mathlib.Core.Path.{_≡_, refl, ap}
 use mathlib.Core.Bool.{true, false}
 use mathlib.Core.Logic.{⊎-elim}
 use Prim.Native.Nat.{_-_, _≤_}
 use lib.ListN.{length, length-set}
 use Rattle.trip.specs.declared.Trip.{Trip}
-use Rattle.layout.specs.Words.{entryWords, tripAt}
+use Rattle.layout.specs.Words.{tripAt}
 use Rattle.plan.specs.Bounds.{inside}
 use Rattle.walk.specs.Part.{Listed}
 use Rattle.walk.proofs.Written.{listed-none}
@@ -26,14 +26,12 @@ loop-holds : tie.Need-loop-holds Inv-loop μ-loop
 loop-holds c = (omega arith, refl, rw (found-none _ _) (listed-none _))
 
 trip-at-requires : tie.Need-trip-at-requires Inv-loop μ-loop
-unfolding entryWords
 trip-at-requires c κs = omega arith
 
 hold-requires : tie.Need-hold-requires Inv-loop μ-loop
 hold-requires c κs = search needs
 
 mul-out : tie.Need-mul-out Inv-loop μ-loop
-unfolding entryWords
 mul-out c =
     let g = c .before .before .before .before .before .before .before .args in
     let q = c .before .before .before .before .loop in
@@ -43,7 +41,6 @@ mul-out c =
     omega (arith, hit-room test l (q .inv .2) e (omega arith) (omega arith))
 
 slice-write-out : tie.Need-slice-write-out Inv-loop μ-loop
-unfolding entryWords
 slice-write-out c =
     let g = c .before .before .before .before .before .before .before .args in
     let q = c .before .before .before .before .loop in
@@ -53,7 +50,6 @@ slice-write-out c =
     hit-room test l (q .inv .2) e (omega arith) (omega arith)
 
 add-count : tie.Need-add-count Inv-loop μ-loop
-unfolding entryWords
 add-count c =
     let g = c .before .before .before .before .before .before .before .args in
     let q = c .before .before .before .before .loop in
@@ -69,7 +65,6 @@ loop-less : tie.Need-loop-less Inv-loop μ-loop
 loop-less c = omega arith
 
 loop-again : tie.Need-loop-again Inv-loop μ-loop
-unfolding entryWords
 loop-again c =
     let g = c .before .before .before .before .before .before .before .args in
     let q = c .before .before .before .before .loop in
@@ -91,7 +86,6 @@ same-length : tie.Need-same-length Inv-loop μ-loop
 same-length c = c .before .loop .inv .1
 
 returns : tie.Need-returns Inv-loop μ-loop
-unfolding entryWords
 returns c =
     let a = c .before .before .before .before .args in
     let q = c .before .loop in

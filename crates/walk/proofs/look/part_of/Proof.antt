@@ -1,7 +1,6 @@
 -- The part of the arena that the look names, and what the cut leaves of it.
 use mathlib.Core.Path.{ap}
 use lib.ListN.{length}
-use Rattle.layout.specs.Words.{entryWords}
 use Rattle.walk.specs.Part.{stretchWords}
 use Rattle.walk.specs.Levels.{lookWords, partOf}
 use native.Mathlib.Omega.{arith}
@@ -55,20 +54,19 @@ part-part-start : tie.Need-part-part-start
 part-part-start c = search needs
 
 part-part-end : tie.Need-part-part-end
-unfolding entryWords
 part-part-end c = omega (arith, c .before .before .before .before .before .before .before .pre .there .room, ap length (c .arena-of .ensures))
 
 returns : tie.Need-returns
-unfolding partOf lookWords stretchWords entryWords
+unfolding partOf lookWords stretchWords
 returns c = rw (c .if1 .taken, c .before .before .arena-of .ensures)
 
 cut-requires : tie.Need-cut-requires
-unfolding lookWords stretchWords entryWords
+unfolding lookWords stretchWords
 cut-requires c κs = rw (c .before .before .arena-of .ensures)
     (c .before .before .before .before .before .before .before .before .before .pre .ordered (c .if1 .left))
 
 returns-2 : tie.Need-returns-2
-unfolding partOf lookWords stretchWords entryWords
+unfolding partOf lookWords stretchWords
 returns-2 c = rw (c .before .if1 .left, c .cut .ensures, c .before .before .before .arena-of .ensures)
 
 pub part-of-spec : {M : Type 1} → statement M
