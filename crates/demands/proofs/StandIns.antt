@@ -13,7 +13,7 @@ use Rattle.trip.specs.Relationships.{codeOf, related}
 use Rattle.layout.specs.declared.Refusal.the-variants.{NoRoom}
 use Rattle.layout.specs.declared.Outcome.the-variants.{Refused}
 use Rattle.layout.specs.Stored.{partitionsAt, firstCell, lastCell, within, holds, holdsTrip, isOriginal, isIn, subdivisionOf, isOf, belongs}
-use Rattle.layout.specs.Words.{Index, entryWords, tripWords, tripAt, words, rows, partitions, directoryLength, halfLength, partitionNumber, levelOf, placeOf, slotNumber, byId, byStart, byEnd, order, slotTrips, slot, entriesBefore, entries, directoryHalf, arena, lengthsOf, layout}
+use Rattle.layout.specs.Words.{Index, tripWords, tripAt, words, rows, partitions, directoryLength, halfLength, partitionNumber, levelOf, placeOf, slotNumber, byId, byStart, byEnd, order, slotTrips, slot, entriesBefore, entries, directoryHalf, arena, lengthsOf, layout}
 use Rattle.layout.specs.Answers.{matches, answer, answerTo, subdivisionNumber, subdivisionNumbered, levelCount, levelRow, census, halfOf, isAft, runWords, runFrom}
 use Rattle.layout.specs.Refusals.{isAccepted, refuse, outOfBounds, badSize, full, badDirectory, offRuler, backward, hasId, noRoom, exceeds, noSuchCode, partitionsHolding, inTooMany, noSuchSlot, timeTests, rowTests, firstBadRow, buildOutcome, tableOf, sameIndex, gives, isIndex, indexTests, addOutcome, removeOutcome, windowTests, roomTest, askOutcome, runOutcome, checkOutcome}
 use Rattle.layout.specs.Calls.{After, Asked, index, ifAccepted, leaving, buildOf, addOf, without, removeOf, askOf, noCensus, censusOf, runOf, runFromOf}
@@ -64,7 +64,7 @@ record Computed : Type 0 where
 
 computed : Computed
 unfolding with-five with-seven with-both every same count padded keep insert sort joined upTo inBounds scaleOf cellUp judge codeOf related
-    partitionsAt firstCell lastCell within holds holdsTrip isOriginal isIn subdivisionOf isOf belongs entryWords tripWords tripAt words rows
+    partitionsAt firstCell lastCell within holds holdsTrip isOriginal isIn subdivisionOf isOf belongs tripWords tripAt words rows
     partitions directoryLength halfLength partitionNumber levelOf placeOf slotNumber byId byStart byEnd order slotTrips slot entriesBefore entries
     directoryHalf arena lengthsOf layout matches answer answerTo over subdivisionNumber subdivisionNumbered levelCount levelRow census halfOf isAft
     runWords runFrom isAccepted refuse outOfBounds badSize full badDirectory offRuler backward hasId noRoom exceeds noSuchCode partitionsHolding
