@@ -1,36 +1,29 @@
 -- How a question ends: refused at a link of its chain, with the list as found, or accepted with the ids in order in its first words.
 use mathlib.Core.Path.{_≡_, sym, ap, _∙_}
-use mathlib.Core.Bool.{true, false, _&&_}
 use mathlib.Core.List.{List, _++_}
 use Prim.Native.Nat.{ℕ}
-use lib.Dec.{leb, ltb}
+use lib.Dec.{leb}
 use lib.ListN.{length, take, drop}
 use lib.Seq.{take-at, drop-at}
-use borrow.Author.Tests.{ltb-false, not-false}
 use Rattle.lists.specs.Lists.{ascending, over}
-use Rattle.lists.proofs.Tests.{of-and, to-T}
 use Rattle.lists.proofs.Members.{length-sort}
 use Rattle.ruler.specs.Ruler.{Scale}
 use Rattle.trip.specs.declared.Trip.{Trip}
-use Rattle.trip.specs.declared.Window.{Window}
-use Rattle.trip.specs.declared.Relationship.{Relationship}
-use Rattle.trip.specs.declared.Named.the-variants.{As, Nothing}
-use Rattle.trip.specs.Relationships.{lastCode, named}
-use Rattle.trip.proofs.Naming.{nothing-above, named-within}
+use Rattle.trip.specs.declared.Asking.{Asking}
+use Rattle.trip.specs.declared.Question.{Question}
 use Rattle.layout.specs.declared.Refusal.{Refusal}
-use Rattle.layout.specs.declared.Refusal.the-variants.{OffRuler, Backward, NoRelationship}
 use Rattle.layout.specs.declared.Outcome.{Outcome}
 use Rattle.layout.specs.declared.Outcome.the-variants.{Accepted, Refused}
-use Rattle.layout.specs.Answers.{answer, answerTo}
-use Rattle.layout.specs.Refusals.{offRuler, backward, noSuchCode, timeTests, windowTests, roomTest, tableOf, checkOutcome, askOutcome}
+use Rattle.layout.specs.Answers.{answer, answerBy, answerTo}
+use Rattle.layout.specs.Refusals.{questionTests, roomTest, tableOf, checkOutcome, askOutcome}
 use Rattle.layout.specs.Calls.{ifAccepted, asked, askOf}
 use Rattle.layout.specs.Words.{Index}
 use Rattle.layout.proofs.Checked.{refused-for-all, passed}
-use Rattle.layout.proofs.Chains.{refuse-pass, refuse-taken}
 use Rattle.store.specs.Entries.{ids}
 use Rattle.walk.specs.Part.{Listed}
-use Rattle.ask.specs.Chain.{answeredAs, listedOf, answerOf, OnRuler}
+use Rattle.ask.specs.Chain.{answeredAs, listedOf, answerOf}
 use Rattle.walk.proofs.Written.{ids-length}
+use Rattle.ask.proofs.Judging.{Judged}
 
 -- ---- the two endings
 
@@ -55,58 +48,29 @@ sorted-over ts {old} {mid} {last} {is} {n} {k} w e a l =
     let back = ap (drop k) (w .written) ∙ drop-at (ids ts) (drop (length (ids ts)) old) k c in
     rw (l, front, back, a, c, size)
 
--- ---- the links before 7
+-- ---- 9, 4 and 5
 
-module _ (s : Scale) (ts : List Trip) (code : ℕ) (w : Window) (list : List ℕ) {o : Outcome} {n : ℕ} (none : n ≡ 0) where
-  pub ends-unnamed : named code ≡ Nothing → o ≡ Refused NoRelationship 0 → asked o n list ≡ answerOf s ts code w list
-  unfolding answerOf noSuchCode
-  ends-unnamed e f = ends-refused NoRelationship 0 _ list (refuse-taken (ltb lastCode code) _ _ _ (to-T (nothing-above code e))) f none
+module _ (s : Scale) (ts : List Trip) (q : Asking) (list : List ℕ) where
+  pub ends-unfit : {why : Refusal} {o : Outcome} {n : ℕ} → ((rest : Outcome) → questionTests s q rest ≡ Refused why 0) → o ≡ Refused why 0 → n ≡ 0
+      → asked o n list ≡ answerOf s ts q list
+  unfolding answerOf
+  ends-unfit {why} refuses f none = ends-refused why 0 (answerTo q ts) list (refuses _) f none
 
-  module _ {r : Relationship} (e : named code ≡ As r) where
-    pub ends-off : offRuler s (w .start) (w .end) ≡ true → o ≡ Refused OffRuler 0 → asked o n list ≡ answerOf s ts code w list
-    unfolding answerOf noSuchCode windowTests timeTests
-    ends-off off f =
-        ends-refused OffRuler 0 _ list (refuse-pass (ltb lastCode code) _ _ _ (rw (named-within code e) tt) ∙ refuse-taken _ _ _ _ (to-T off)) f none
-
-    pub ends-backward : offRuler s (w .start) (w .end) ≡ false → backward (w .start) (w .end) ≡ true → o ≡ Refused Backward 0
-        → asked o n list ≡ answerOf s ts code w list
-    unfolding answerOf noSuchCode windowTests timeTests
-    ends-backward off back f =
-        ends-refused Backward 0 _ list
-        (refuse-pass (ltb lastCode code) _ _ _ (rw (named-within code e) tt)
-        ∙ refuse-pass (offRuler s (w .start) (w .end)) _ _ _ (rw off tt)
-        ∙ refuse-taken _ _ _ _ (to-T back)) f none
-
--- past them the question is one of a window and a relationship
-pub past-chain : (s : Scale) (ts : List Trip) (code : ℕ) (w : Window) (list : List ℕ) {r : Relationship} → named code ≡ As r
-    → offRuler s (w .start) (w .end) ≡ false → backward (w .start) (w .end) ≡ false
-    → answerOf s ts code w list ≡ listedOf (answer (record { window = w; relationship = r }) ts) list
-unfolding answerOf listedOf noSuchCode windowTests timeTests answerTo
-past-chain s ts code w list {r} e off back =
-    let is = answer (record { window = w; relationship = r }) ts in
-    rw e
-    (ap (λ (o : Outcome). answeredAs o is list)
-    (refuse-pass (ltb lastCode code) _ _ _ (rw (named-within code e) tt)
-    ∙ refuse-pass (offRuler s (w .start) (w .end)) _ _ _ (rw off tt)
-    ∙ refuse-pass (backward (w .start) (w .end)) _ _ _ (rw back tt)))
-
--- what 4 and 5 say
-pub on-ruler : (s : Scale) (w : Window) → offRuler s (w .start) (w .end) ≡ false → backward (w .start) (w .end) ≡ false → OnRuler s w
-unfolding offRuler backward
-on-ruler s w off back =
-    let a = s .has (w .start) in
-    let b = s .has (w .end) in
-    let p = of-and a b (to-T (not-false (a && b) off)) in
-    record { starts = p .0; ends = p .1; ordered = ltb-false (w .end .0) (w .start .0) back }
+  -- past them the question is one of a window and a relationship
+  pub past-chain : (p : Question) → Judged s q p → answerOf s ts q list ≡ listedOf (answer p ts) list
+  unfolding answerOf listedOf answerTo answerBy
+  past-chain p j =
+      rw (j .names, ← j .same)
+      (ap (λ (o : Outcome). answeredAs o (answer p ts) list) (j .passes (roomTest (length (answer p ts)) (length list))))
 
 -- ---- 1, 3, 8
 
-module _ (s : Scale) (x : Index) (code : ℕ) (w : Window) (list : List ℕ) where
+module _ (s : Scale) (x : Index) (q : Asking) (list : List ℕ) where
   pub ends-unchecked : {why : Refusal} {d : ℕ} {o : Outcome} {n : ℕ} → checkOutcome s x ≡ Refused why d → o ≡ Refused why d → n ≡ 0
-      → asked o n list ≡ askOf s x code w list
+      → asked o n list ≡ askOf s x q list
   unfolding askOf askOutcome answeredAs
-  ends-unchecked {why} {d} e f z = ends-refused why d (answerTo (named code) w (tableOf s x)) list (refused-for-all s x why d e _) f z
+  ends-unchecked {why} {d} e f z = ends-refused why d (answerTo q (tableOf s x)) list (refused-for-all s x why d e _) f z
 
-  pub past-check : checkOutcome s x ≡ Accepted → answerOf s (tableOf s x) code w list ≡ askOf s x code w list
+  pub past-check : checkOutcome s x ≡ Accepted → answerOf s (tableOf s x) q list ≡ askOf s x q list
   unfolding askOf askOutcome answerOf answeredAs
-  past-check e = ap (λ (o : Outcome). answeredAs o (answerTo (named code) w (tableOf s x)) list) (sym (passed s x e _))
+  past-check e = ap (λ (o : Outcome). answeredAs o (answerTo q (tableOf s x)) list) (sym (passed s x e _))

@@ -2,10 +2,9 @@
 use mathlib.Core.Path.{_≡_, sym, ap, ap₂, _∙_}
 use mathlib.Core.Bool.{Bool, true}
 use mathlib.Core.List.{List, List·Memᴰ as Mem}
-use Prim.Native.Nat.{_+_, _*_, _^_, _≤_, _<_}
+use Prim.Native.Nat.{_+_, _*_, _≤_, _<_}
 use native.Mathlib.Omega.{arith}
-use lib.Dec.{T, leb, ltb→lt}
-use lib.Pow.{pow-mono}
+use lib.Dec.{T, leb}
 use lib.ListN.{length, getD}
 use Rattle.lists.specs.Lists.{keep, ascending}
 use Rattle.lists.proofs.Tests.{to-T}
@@ -13,17 +12,16 @@ use Rattle.lists.proofs.Members.{keep-length, length-sort, pairs-keep}
 use Rattle.lists.proofs.Sorting.{ascending-same}
 use Rattle.lists.proofs.Kept.{keep-ext}
 use Rattle.ruler.specs.declared.Time.{Time}
-use Rattle.ruler.specs.declared.Numbers.{Numbers}
 use Rattle.ruler.specs.declared.Ruler.{Ruler}
-use Rattle.ruler.specs.Ruler.{Scale, mostTrips, inBounds, scaleOf, scale}
-use Rattle.ruler.proofs.Fair.{Fair, bounds, fair}
+use Rattle.ruler.specs.Ruler.{Scale, mostTrips, inBounds, scale}
+use Rattle.ruler.proofs.Fair.{Fair, scale-m, fair}
 use Rattle.trip.specs.declared.Trip.{Trip}
 use Rattle.trip.specs.declared.Window.{Window}
 use Rattle.trip.specs.declared.Question.{Question}
 use Rattle.trip.specs.Relationships.{related}
 use Rattle.layout.specs.Words.{partitions, Index, lengthsOf, entries}
 use Rattle.layout.specs.Answers.{matches, answer}
-use Rattle.layout.specs.Refusals.{tableOf, isIndex}
+use Rattle.layout.specs.Refusals.{tableOf, isIndex, OnRuler}
 use Rattle.layout.proofs.Tables.{Table}
 use Rattle.layout.proofs.Indexes.{of-isIndex, back-length}
 use Rattle.layout.proofs.Edits.{ids-differ, ids-in}
@@ -38,17 +36,11 @@ use Rattle.plan.proofs.Looked.{walk}
 use Rattle.plan.proofs.Walked.{Suits, walk-in, in-walk, walk-distinct}
 use Rattle.plan.proofs.Suited.{plan-for, in-range, suits-plan, quick-right}
 use Rattle.walk.specs.Levels.{LevelsThere, walkMatches}
-use Rattle.ask.specs.Chain.{OnRuler}
 use Rattle.walk.proofs.Levels.{Ready, levels-there, walk-matches}
 use Rattle.walk.proofs.Written.{ids-length}
 
--- a time of a ruler is not far
-pub not-far : (n : Numbers) → T (inBounds n) → (t : Time) → T (scaleOf n .has t) → t .0 < far
-unfolding scaleOf
-not-far n ok t h = omega (arith, ltb→lt (t .0) (2 ^ n .w) h, pow-mono (bounds n ok .wide))
-
 module _ (ruler : Ruler) (ok : inBounds (ruler .numbers) ≡ true) (x : Index) (is : isIndex (scale ruler) x ≡ true) (q : Question)
-    (on : OnRuler (scale ruler) (q .window)) where
+    (on : OnRuler (scale ruler) (q .window .start) (q .window .end)) where
   abbrev s : Scale
   s = scale ruler
 
@@ -70,24 +62,26 @@ module _ (ruler : Ruler) (ok : inBounds (ruler .numbers) ≡ true) (x : Index) (
   table : Table s ts (lengthsOf x)
   table = of-isIndex s x (to-T is) .table
 
+  -- a time of the ruler is below the greatest
+  near : (t : Time) → T (s .has t) → t .0 < far
+  near t h = omega (arith, falls .not-far t h)
+
   pub window-near : (w .start .0 < far) × (w .end .0 < far)
-  window-near = (not-far (ruler .numbers) (to-T ok) (w .start) (on .starts), not-far (ruler .numbers) (to-T ok) (w .end) (on .ends))
+  window-near = (near (w .start) (on .starts), near (w .end) (on .ends))
 
   -- on the table's trips the bounds say what the relationship does
   agrees : (t : Trip) → Mem t ts → test t ≡ related (q .relationship) w t
   agrees t m =
       let f = table .rowsOk .fits t m in
-      inside-related (q .relationship) w t (not-far (ruler .numbers) (to-T ok) (t .start) (f .starts))
-      (not-far (ruler .numbers) (to-T ok) (t .end) (f .ends))
+      inside-related (q .relationship) w t (near (t .start) (f .starts)) (near (t .end) (f .ends))
 
   order : s .cell (w .start) ≤ s .cell (w .end)
   order = falls .never-falls (w .start) (w .end) (on .ordered)
 
   ready : Ready s test p x
-  unfolding scaleOf
   ready = rw (plan-for s (q .relationship) w) (record {
     indexed = is;
-    ranged = in-range s (bounds (ruler .numbers) (to-T ok) .deep) (q .relationship) (s .cell (w .start)) (s .cell (w .end)) order
+    ranged = in-range s (scale-m (ruler .numbers) (to-T ok)) (q .relationship) (s .cell (w .start)) (s .cell (w .end)) order
         (falls .one-of (w .end) (on .ends));
     sure = λ e t m low high. rw (agrees t m) (quick-right s falls (q .relationship) w e t low high);
   })

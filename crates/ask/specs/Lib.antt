@@ -1,2 +1,3 @@
--- What the contracts inside a question say: its chain.
+-- What the contracts inside a question say: its judgement and its chain.
+pub mod Judged
 pub mod Chain

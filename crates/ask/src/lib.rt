@@ -1,4 +1,8 @@
 // Questions on the words of an index: the ids of the trips to which a window stands in a named relationship.
+mod judge;
+
+use crate::judge::Judgement;
+use crate::judge::judge;
 use layout::Outcome;
 use layout::Refusal;
 use plan::bounds::Bounds;
@@ -8,10 +12,8 @@ use plan::range::plan_for;
 use plan::stretches::half_length;
 use ruler::Numbers;
 use ruler::Ruler;
-use trip::Named;
+use trip::Asking;
 use trip::Question;
-use trip::Window;
-use trip::relationship_of;
 use verify::Opened;
 use verify::open;
 use walk::count::count_levels;
@@ -23,11 +25,11 @@ ghost use lib.ListN.{length, getD};
 ghost use Rattle.ruler.specs.Ruler.{deepest, mostTrips, inBounds, scaleOf, scale};
 ghost use Rattle.layout.specs.Words.{partitions};
 ghost use Rattle.layout.specs.Answers.{answer};
-ghost use Rattle.layout.specs.Refusals.{tableOf, isIndex, roomTest};
+ghost use Rattle.layout.specs.Refusals.{OnRuler, tableOf, isIndex, roomTest};
 ghost use Rattle.layout.specs.Calls.{index, asked, askOf};
 ghost use Rattle.plan.specs.Bounds.{inside};
 ghost use Rattle.walk.specs.Levels.{LevelsThere, walkMatches};
-ghost use Rattle.ask.specs.Chain.{OnRuler, listedOf, answerOf};
+ghost use Rattle.ask.specs.Chain.{listedOf, answerOf};
 
 // What a question answers: the outcome, and how many ids it listed.
 pub struct Answered {
@@ -86,7 +88,7 @@ fn listed<'a>(
 ) -> Answered
     requires { ⌜ inBounds (ruler .numbers) ≡ true ⌝ }
     requires { ⌜ isIndex (scale ruler) (index (now directory) (now originals) (now replicas)) ≡ true ⌝ }
-    requires { ⌜ OnRuler (scale ruler) (question .window) ⌝ }
+    requires { ⌜ OnRuler (scale ruler) (question .window .start) (question .window .end) ⌝ }
     ensures { λ r.
         ⌜ asked (r .outcome) (r .count) (now (answers .exit))
         ≡ listedOf (answer question (tableOf (scale ruler) (index (now (directory .entry)) (now (originals .entry)) (now (replicas .entry)))))
@@ -127,14 +129,13 @@ fn refused(refusal: Refusal, detail: u32) -> Answered
     }
 }
 
-// The answer to a question on an index, in the paper's words: a code and a window.
-fn by_code<'a>(
+// The answer to a question on an index, as it is put.
+fn answer_to<'a>(
     ruler: Ruler,
     directory: &[u32],
     originals: &'a [u32],
     replicas: &'a [u32],
-    code: u32,
-    window: Window,
+    asking: Asking,
     answers: &mut [u32],
 ) -> Answered
     requires { ⌜ inBounds (ruler .numbers) ≡ true ⌝ }
@@ -142,47 +143,36 @@ fn by_code<'a>(
     ensures { λ r.
         ⌜ asked (r .outcome) (r .count) (now (answers .exit))
         ≡ answerOf (scale ruler) (tableOf (scale ruler) (index (now (directory .entry)) (now (originals .entry)) (now (replicas .entry))))
-        code window (now (answers .entry)) ⌝ }
+        asking (now (answers .entry)) ⌝ }
 {
-    let Named::As(relationship) = relationship_of(code) else {
-        return refused(Refusal::NoRelationship, 0);
-    };
-    let start = window.start;
-    let end = window.end;
-    let on = ruler.has(start) & ruler.has(end);
-    if !on {
-        return refused(Refusal::OffRuler, 0);
+    let judgement = judge(ruler, asking);
+    match judgement {
+        Judgement::Fit(question) => {
+            listed(ruler, directory, originals, replicas, question, answers)
+        }
+        Judgement::Unfit(refusal) => refused(refusal, 0),
     }
-    if end.before(start) {
-        return refused(Refusal::Backward, 0);
-    }
-    let question = Question {
-        window,
-        relationship,
-    };
-    listed(ruler, directory, originals, replicas, question, answers)
 }
 
-// A question on any words: the code and the window, after the tests of the ruler, the directory and the index. The ids of the matches go
-// into the answer list's first words, in ascending order.
+// A question on any words, after the tests of the ruler, the directory and the index. The ids of the matches go into the answer list's first
+// words, in ascending order.
 pub fn ask<'a>(
     numbers: Numbers,
     directory: &[u32],
     originals: &'a [u32],
     replicas: &'a [u32],
-    code: u32,
-    window: Window,
+    asking: Asking,
     answers: &mut [u32],
 ) -> Answered
     ensures { λ r.
         ⌜ asked (r .outcome) (r .count) (now (answers .exit))
         ≡ askOf (scaleOf numbers) (index (now (directory .entry)) (now (originals .entry)) (now (replicas .entry)))
-        code window (now (answers .entry)) ⌝ }
+        asking (now (answers .entry)) ⌝ }
 {
     let opened = open(numbers, directory, originals, replicas);
     match opened {
         Opened::Index(ruler) => {
-            by_code(ruler, directory, originals, replicas, code, window, answers)
+            answer_to(ruler, directory, originals, replicas, asking, answers)
         }
         Opened::Refused(refusal) => refused(refusal, 0),
     }

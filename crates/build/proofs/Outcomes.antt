@@ -9,7 +9,8 @@ use lib.Seq.{take-at, length-take-le}
 use borrow.Rule.Slice.PartMut.{putMid}
 use borrow.Author.Tests.{eq-eqb, ne-eqb}
 use Rattle.ruler.specs.declared.Ruler.{Ruler}
-use Rattle.ruler.specs.Ruler.{Scale, mostTrips, inBounds, scaleOf, scale}
+use Rattle.ruler.specs.Ruler.{Scale, mostTrips, inBounds, scale}
+use Rattle.ruler.proofs.Fair.{scale-good}
 use Rattle.layout.specs.declared.Half.the-variants.{Originals, Replicas}
 use Rattle.layout.specs.declared.Refusal.the-variants.{RulerOutOfBounds, TableSize, DirectoryLength, NoRoom}
 use Rattle.layout.specs.declared.Outcome.{Outcome}
@@ -32,8 +33,8 @@ module _ (r : Ruler) (table : List ℕ) (directory originals replicas : ℕ) (go
   says = buildOutcome (scale r) table (lengths directory originals replicas)
 
   in-bounds : outOfBounds (scale r) ≡ false
-  unfolding outOfBounds scaleOf
-  in-bounds = rw good
+  unfolding outOfBounds
+  in-bounds = rw (scale-good (r .numbers), good)
 
   pub says-2 : badSize table ≡ true → Refused TableSize 0 ≡ says
   unfolding buildOutcome refuse

@@ -1,5 +1,6 @@
 // Document 01's examples that a program runs: two questions and the census of its four trips, tables of one trip, and the empty table.
 use crate::say;
+use trip::Asking;
 
 // Two questions to the four trips, in a list of four words. The list has the id first, and after it the words that it had.
 fn lists_one<'a>(
@@ -12,8 +13,8 @@ fn lists_one<'a>(
     id: u32,
 ) -> bool {
     let mut answers = [5u32; 4];
-    let window = say::window(start, end);
-    let answered = ask::ask(say::ruler(6, 4), d, o, r, code, window, &mut answers);
+    let asking = Asking::of(code, start, end);
+    let answered = ask::ask(say::ruler(6, 4), d, o, r, asking, &mut answers);
     let outcome = answered.outcome;
     say::is(outcome, 0, 0) & (answered.count == 1) & say::same(&answers, &[id, 5, 5, 5])
 }

@@ -1,6 +1,7 @@
 // The most trips that an index may have: 4,096 in one slot, 4,096 of 18 partitions each, and edits where there is no room for one more.
 use crate::say;
 use layout::ENTRY_WORDS;
+use trip::Trip;
 ghost use Prim.Native.Nat.{_+_, _*_, _≤_};
 ghost use lib.ListN.{length};
 
@@ -54,9 +55,9 @@ fn is_table(table: &[u32], originals: &[u32]) -> bool {
 
 // With 4,096 trips one more gives 2, whatever its times are, and nothing changes.
 fn one_too_many(table: &[u32], directory: &mut [u32], originals: &mut [u32]) -> bool {
-    let fair = say::trip(5000, 0, 0);
+    let fair = Trip::of(5000, 0, 0);
     let refused = edit::add(say::ruler(1, 1), directory, originals, &mut [], fair);
-    let bad = say::trip(0, 9, 8);
+    let bad = Trip::of(0, 9, 8);
     let bad_refused = edit::add(say::ruler(1, 1), directory, originals, &mut [], bad);
     say::is(refused, 2, 0) & say::is(bad_refused, 2, 0) & is_table(table, originals)
 }
@@ -64,7 +65,7 @@ fn one_too_many(table: &[u32], directory: &mut [u32], originals: &mut [u32]) -> 
 // Trip 17 out and in again: the words are those of the table again.
 fn out_and_in(table: &[u32], directory: &mut [u32], originals: &mut [u32]) -> bool {
     let out = edit::remove(say::ruler(1, 1), directory, originals, &mut [], 17);
-    let back = say::trip(17, 0, 0);
+    let back = Trip::of(17, 0, 0);
     let again = edit::add(say::ruler(1, 1), directory, originals, &mut [], back);
     say::is(out, 0, 0) & say::is(again, 0, 0) & is_table(table, originals)
 }

@@ -2,9 +2,6 @@
 use layout::Outcome;
 use libc::STDOUT_FILENO;
 use ruler::Numbers;
-use ruler::Time;
-use trip::Trip;
-use trip::Window;
 
 // One case: whether it is right, and its name.
 pub fn case(right: bool, name: &[u8]) {
@@ -55,19 +52,4 @@ pub fn gives(
 
 pub fn ruler(w: u32, m: u32) -> Numbers {
     Numbers { w, m }
-}
-
-pub fn trip(id: u32, start: u32, end: u32) -> Trip {
-    Trip {
-        id,
-        start: Time::at(start),
-        end: Time::at(end),
-    }
-}
-
-pub fn window(start: u32, end: u32) -> Window {
-    Window {
-        start: Time::at(start),
-        end: Time::at(end),
-    }
 }

@@ -2,10 +2,11 @@
 use mathlib.Core.List.{List, [], _∷_, _++_}
 use Prim.Native.Nat.{ℕ}
 use lib.ListN.{length}
-use Rattle.ruler.specs.Ruler.{Scale, timeAt, scaleOf}
+use Rattle.ruler.specs.Ruler.{Scale, scaleOf, numbersOf}
 use Rattle.layout.specs.declared.Outcome.{Outcome}
 use Rattle.layout.specs.Refusals.{numberOf, detailOf, checkOutcome, runOutcome}
 use Rattle.layout.specs.Calls.{index, After, Asked, buildOf, addOf, removeOf, askOf, censusOf, runOf}
+use Rattle.trip.specs.Trips.{tripOf, askingOf}
 
 pub data Call : Type 0 where
   build : (w m : ℕ) → (table directory originals replicas : List ℕ) → Call
@@ -41,14 +42,14 @@ flat [] = []
 flat (l ∷ ls) = l ++ flat ls
 
 unfoldable pub ruler : (w m : ℕ) → Scale
-ruler w m = scaleOf (record { w = w; m = m })
+ruler w m = scaleOf (numbersOf w m)
 
 -- what the definitions answer
 unfoldable pub answerOf : Call → List ℕ
 answerOf (build w m t d o r) = after (buildOf (ruler w m) t (index d o r))
 answerOf (check w m d o r) = outcome (checkOutcome (ruler w m) (index d o r))
-answerOf (add w m i s e d o r) = after (addOf (ruler w m) (index d o r) (record { id = i; start = timeAt s; end = timeAt e }))
+answerOf (add w m i s e d o r) = after (addOf (ruler w m) (index d o r) (tripOf i s e))
 answerOf (remove w m i d o r) = after (removeOf (ruler w m) (index d o r) i)
-answerOf (ask w m c s e d o r a) = asked (askOf (ruler w m) (index d o r) c (record { start = timeAt s; end = timeAt e }) a)
+answerOf (ask w m c s e d o r a) = asked (askOf (ruler w m) (index d o r) (askingOf c s e) a)
 answerOf (run w m L i s d o r) = outcome (runOutcome (ruler w m) (index d o r) L i s) ++ buffer (runOf (ruler w m) (index d o r) L i s)
 answerOf (census w m d o r) = outcome (checkOutcome (ruler w m) (index d o r)) ++ flat (censusOf (ruler w m) (index d o r))

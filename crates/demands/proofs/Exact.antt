@@ -13,7 +13,7 @@ use Rattle.lists.proofs.Halving.{in-order}
 use Rattle.ruler.specs.declared.Numbers.{Numbers}
 use Rattle.ruler.specs.Ruler.{scaleOf}
 use Rattle.trip.specs.declared.Trip.{Trip}
-use Rattle.trip.specs.declared.Window.{Window}
+use Rattle.trip.specs.declared.Asking.{Asking}
 use Rattle.trip.specs.declared.Question.{Question}
 use Rattle.trip.specs.declared.Relationship.{Relationship}
 use Rattle.trip.specs.declared.Named.the-variants.{As}
@@ -45,33 +45,33 @@ module _ (n : Numbers) (x : Index) (table : List ℕ) (accepted : buildOf (scale
 
 -- ---- "A question under any of fourteen relationships lists exactly the right ids, each once, ascending"
 
-module _ (n : Numbers) (x : Index) (table : List ℕ) (g : IndexOf (scaleOf n) table x) (code : ℕ) (r : Relationship) (is : named code ≡ As r)
-    (w : Window) (list : List ℕ) where
+module _ (n : Numbers) (x : Index) (table : List ℕ) (g : IndexOf (scaleOf n) table x) (q : Asking) (r : Relationship)
+    (is : named (q .code) ≡ As r) (list : List ℕ) where
   -- the list and its count
-  pub ask-exact : askOf (scaleOf n) x code w list .outcome ≡ Accepted → askOf (scaleOf n) x code w list
-      ≡ asked Accepted (length (answer (question r w) (rows table))) (over (answer (question r w) (rows table)) list)
+  pub ask-exact : askOf (scaleOf n) x q list .outcome ≡ Accepted → askOf (scaleOf n) x q list
+      ≡ asked Accepted (length (answer (question r q) (rows table))) (over (answer (question r q) (rows table)) list)
   unfolding askOf
-  ask-exact accepted = given-asked (scaleOf n) (given-fair n table x g) table x g code r is w list accepted
+  ask-exact accepted = given-asked (scaleOf n) (given-fair n table x g) table x g q r is list accepted
 
   -- each id is below every later one
-  pub ask-ascends : InOrder ltb 0 (answer (question r w) (rows table)) (length (answer (question r w) (rows table)))
-  ask-ascends = in-order 0 ltb (answer-ascends (question r w) (rows table) (given-table (scaleOf n) table x g .rowsOk .distinct))
+  pub ask-ascends : InOrder ltb 0 (answer (question r q) (rows table)) (length (answer (question r q) (rows table)))
+  ask-ascends = in-order 0 ltb (answer-ascends (question r q) (rows table) (given-table (scaleOf n) table x g .rowsOk .distinct))
 
   -- 7 "matches exceed the answer list (detail: the matches)", of a window that passes 4 and 5
-  module _ (on-ruler : windowTests (scaleOf n) w Accepted ≡ Accepted) where
-    pub seven-exactly : (d : ℕ) → (askOf (scaleOf n) x code w list .outcome ≡ Refused NoRoom d)
-        ↔ ((d ≡ length (matches (question r w) (rows table))) × (length list < length (matches (question r w) (rows table))))
+  module _ (on-ruler : windowTests (scaleOf n) (q .window) Accepted ≡ Accepted) where
+    pub seven-exactly : (d : ℕ) → (askOf (scaleOf n) x q list .outcome ≡ Refused NoRoom d)
+        ↔ ((d ≡ length (matches (question r q) (rows table))) × (length list < length (matches (question r q) (rows table))))
     unfolding askOf
     seven-exactly d =
-        let k = length (matches (question r w) (rows table)) in
-        let o = given-outcome (scaleOf n) (given-fair n table x g) table x g code r is w (length list) on-ruler in
+        let k = length (matches (question r q) (rows table)) in
+        let o = given-outcome (scaleOf n) (given-fair n table x g) table x g q r is (length list) on-ruler in
         ((λ e. of-no-room k (length list) d (sym o ∙ e)), λ h. o ∙ no-room k (length list) (h .1) ∙ rw (h .0))
 
-    pub accepted-exactly : (askOf (scaleOf n) x code w list .outcome ≡ Accepted) ↔ (length (matches (question r w) (rows table)) ≤ length list)
+    pub accepted-exactly : (askOf (scaleOf n) x q list .outcome ≡ Accepted) ↔ (length (matches (question r q) (rows table)) ≤ length list)
     unfolding askOf
     accepted-exactly =
-        let k = length (matches (question r w) (rows table)) in
-        let o = given-outcome (scaleOf n) (given-fair n table x g) table x g code r is w (length list) on-ruler in
+        let k = length (matches (question r q) (rows table)) in
+        let o = given-outcome (scaleOf n) (given-fair n table x g) table x g q r is (length list) on-ruler in
         ((λ e. of-room k (length list) (sym o ∙ e)), λ h. o ∙ has-room k (length list) h)
 
 -- the right ids are those of the trips that the question's relationship holds of

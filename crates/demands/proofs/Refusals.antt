@@ -13,14 +13,15 @@ use lib.ListN.{length}
 use Rattle.lists.proofs.Tests.{of-T, of-no-T}
 use Rattle.ruler.specs.declared.Numbers.{Numbers}
 use Rattle.ruler.specs.Ruler.{inBounds, scaleOf}
+use Rattle.ruler.proofs.Fair.{scale-good}
 use Rattle.trip.specs.declared.Trip.{Trip}
-use Rattle.trip.specs.declared.Window.{Window}
+use Rattle.trip.specs.declared.Asking.{Asking}
 use Rattle.layout.specs.declared.Refusal.{Refusal}
 use Rattle.layout.specs.declared.Refusal.the-variants.{NotAnIndex}
 use Rattle.layout.specs.declared.Outcome.{Outcome}
 use Rattle.layout.specs.declared.Outcome.the-variants.{Accepted, Refused}
 use Rattle.layout.specs.Words.{directoryLength, Index}
-use Rattle.layout.specs.Refusals.{refusalNumber, numberOf, refuse, timeTests, rowTests, windowTests, roomTest, IndexOfSome, isIndex, indexTests, addOutcome, removeOutcome, askOutcome, runOutcome, checkOutcome}
+use Rattle.layout.specs.Refusals.{refusalNumber, numberOf, refuse, timeTests, rowTests, windowTests, questionTests, roomTest, IndexOfSome, isIndex, indexTests, addOutcome, removeOutcome, askOutcome, runOutcome, checkOutcome}
 use Rattle.layout.specs.Calls.{ifAccepted, leaving, buildOf, addOf, removeOf, askOf, censusOf, noCensus, runOf}
 use Rattle.layout.proofs.Chains.{refused-not}
 use Rattle.layout.proofs.Indexes.{to-isIndex, given-indexed, given-fair, index-of-some}
@@ -47,10 +48,10 @@ module _ (n : Numbers) (x : Index) (why : Refusal) (d : ℕ) where
   remove-refused i e = refused-leaves _ _ e
 
   -- "any count that a refused call gives is 0", and the answer list is as found
-  pub ask-refused : (code : ℕ) (w : Window) (list : List ℕ) → askOf (scaleOf n) x code w list .outcome ≡ Refused why d
-      → (askOf (scaleOf n) x code w list .count ≡ 0) × (askOf (scaleOf n) x code w list .answers ≡ list)
+  pub ask-refused : (q : Asking) (list : List ℕ) → askOf (scaleOf n) x q list .outcome ≡ Refused why d
+      → (askOf (scaleOf n) x q list .count ≡ 0) × (askOf (scaleOf n) x q list .answers ≡ list)
   unfolding askOf ifAccepted
-  ask-refused code w list e = (rw e, rw e)
+  ask-refused q list e = (rw e, rw e)
 
   -- "A refused run shows an empty part; a refused census is all zeros."
   pub run-refused : (L i s : ℕ) → runOutcome (scaleOf n) x L i s ≡ Refused why d → runOf (scaleOf n) x L i s ≡ []
@@ -73,14 +74,14 @@ module _ (n : Numbers) (x : Index) where
   )
 
   -- past 1 and 3, the number is 8 exactly where they are the index of none: of the check (and so of the census), and of each call
-  module _ (good : T (inBounds n)) (long : length (x .directory) ≡ directoryLength (n .m)) where
+  module _ (good : T (inBounds n)) (long : length (x .directory) ≡ directoryLength (scaleOf n .m)) where
     pub eight-exactly : (checkOutcome (scaleOf n) x ≡ Refused NotAnIndex 0) ↔ (IndexOfSome (scaleOf n) x → ⊥)
-    unfolding scaleOf refuse
+    unfolding refuse
     eight-exactly = (
       (λ e g. refused-not NotAnIndex 0 (sym e ∙ index-exactly .1 g)),
       λ none.
           let no = of-no-T (isIndex (scaleOf n) x) (λ t. none (index-of-some (scaleOf n) x t)) in
-          sym (check-words (scaleOf n) x false (of-T (inBounds n) good) long no),
+          sym (check-words (scaleOf n) x false (scale-good n ∙ of-T (inBounds n) good) long no),
     )
 
     of-call : (rest : Outcome) → (numberOf rest ≡ refusalNumber NotAnIndex → ⊥)
@@ -99,10 +100,9 @@ module _ (n : Numbers) (x : Index) where
     unfolding removeOutcome
     remove-eight i = of-call _ (other-link _ _ 0 _ (λ e. omega arith) (λ e. omega arith))
 
-    pub ask-eight : (code : ℕ) (w : Window) (room : ℕ)
-        → (askOutcome (scaleOf n) x code w room ≡ Refused NotAnIndex 0) ↔ (IndexOfSome (scaleOf n) x → ⊥)
-    unfolding askOutcome windowTests timeTests roomTest
-    ask-eight code w room = of-call _ (other-link _ _ 0 _ (λ e. omega arith) (other-link _ _ 0 _ (λ e. omega arith)
+    pub ask-eight : (q : Asking) (room : ℕ) → (askOutcome (scaleOf n) x q room ≡ Refused NotAnIndex 0) ↔ (IndexOfSome (scaleOf n) x → ⊥)
+    unfolding askOutcome questionTests windowTests timeTests roomTest
+    ask-eight q room = of-call _ (other-link _ _ 0 _ (λ e. omega arith) (other-link _ _ 0 _ (λ e. omega arith)
         (other-link _ _ 0 _ (λ e. omega arith) (other-link _ _ _ _ (λ e. omega arith) (λ e. omega arith)))))
 
     pub run-eight : (L i d : ℕ) → (runOutcome (scaleOf n) x L i d ≡ Refused NotAnIndex 0) ↔ (IndexOfSome (scaleOf n) x → ⊥)

@@ -6,11 +6,13 @@ use Prim.Native.Nat.{ℕ}
 use Rattle.lists.specs.Lists.{ascending}
 use Rattle.ruler.specs.declared.Time.{Time}
 use Rattle.ruler.specs.declared.Numbers.{Numbers}
-use Rattle.ruler.specs.Ruler.{timeAt, before, sameTime, noLater, scaleOf, judge}
+use Rattle.ruler.specs.Ruler.{timeAt, before, sameTime, noLater, scaleOf, judge, bottomOf}
 use Rattle.trip.specs.declared.Trip.{Trip}
 use Rattle.trip.specs.declared.Window.{Window}
+use Rattle.trip.specs.declared.Asking.{Asking}
 use Rattle.trip.specs.declared.Relationship.{Relationship}
 use Rattle.trip.specs.Relationships.{named, related}
+use Rattle.trip.specs.Trips.{tripOf, sameTrip, windowOf, askingOf}
 use Rattle.layout.specs.declared.Refusal.{Refusal}
 use Rattle.layout.specs.declared.Outcome.{Outcome}
 use Rattle.layout.specs.Words.{Index}
@@ -35,7 +37,7 @@ one-asked said o p k j l m e f =
     let same = settled said (asked o k l) (asked p j m) e f in
     (ap (λ (a : Asked). a .outcome) same, ap (λ (a : Asked). a .count) same, ap (λ (a : Asked). a .answers) same)
 
--- ---- what the entries take and give: times, `Ruler::new`, relationships, the numbers of an outcome, and the sort of ids where they stand
+-- ---- what the entries take and give: times, `Ruler::new`, trips, windows, questions, relationships, the numbers of an outcome, and the sort of ids where they stand
 
 pub time-settled : (seconds : ℕ) → One (timeAt seconds)
 time-settled seconds = settled (timeAt seconds)
@@ -52,6 +54,22 @@ module _ (s t : Time) where
 
 pub ruler-settled : (n : Numbers) → One (judge n)
 ruler-settled n = settled (judge n)
+
+pub bottom-settled : (n : Numbers) → One (bottomOf n)
+bottom-settled n = settled (bottomOf n)
+
+module _ (start end : ℕ) where
+  pub trip-settled : (id : ℕ) → One (tripOf id start end)
+  trip-settled id = settled (tripOf id start end)
+
+  pub window-settled : One (windowOf start end)
+  window-settled = settled (windowOf start end)
+
+  pub asking-settled : (code : ℕ) → One (askingOf code start end)
+  asking-settled code = settled (askingOf code start end)
+
+pub same-trip-settled : (t u : Trip) → One (sameTrip t u)
+same-trip-settled t u = settled (sameTrip t u)
 
 pub relationship-settled : (code : ℕ) → One (named code)
 relationship-settled code = settled (named code)
@@ -83,8 +101,8 @@ module _ (n : Numbers) (x : Index) where
   pub remove-settled : (i : ℕ) → OneAfter (removeOf (scaleOf n) x i)
   remove-settled i = one-after (removeOf (scaleOf n) x i)
 
-  pub ask-settled : (code : ℕ) (w : Window) (list : List ℕ) → OneAsked (askOf (scaleOf n) x code w list)
-  ask-settled code w list = one-asked (askOf (scaleOf n) x code w list)
+  pub ask-settled : (q : Asking) (list : List ℕ) → OneAsked (askOf (scaleOf n) x q list)
+  ask-settled q list = one-asked (askOf (scaleOf n) x q list)
 
   -- the check, and the outcome of the census
   pub open-settled : One (openOf n x)

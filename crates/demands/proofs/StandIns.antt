@@ -7,15 +7,16 @@ use Prim.Native.Nat.{ℕ}
 use native.Mathlib.Omega.{arith}
 use lib.ListN.{getD}
 use Rattle.lists.specs.Lists.{every, same, count, padded, keep, insert, sort, joined, upTo, over}
-use Rattle.ruler.specs.Ruler.{timeAt, inBounds, scaleOf, cellUp, judge}
+use Rattle.ruler.specs.Ruler.{inBounds, scaleOf, cellUp, judge}
 use Rattle.trip.specs.declared.Trip.{Trip}
 use Rattle.trip.specs.Relationships.{codeOf, related}
+use Rattle.trip.specs.Trips.{tripOf}
 use Rattle.layout.specs.declared.Refusal.the-variants.{NoRoom}
 use Rattle.layout.specs.declared.Outcome.the-variants.{Refused}
 use Rattle.layout.specs.Stored.{partitionsAt, firstCell, lastCell, within, holds, holdsTrip, isOriginal, isIn, subdivisionOf, isOf, belongs}
 use Rattle.layout.specs.Words.{Index, tripWords, tripAt, words, rows, partitions, directoryLength, halfLength, partitionNumber, levelOf, placeOf, slotNumber, byId, byStart, byEnd, order, slotTrips, slot, entriesBefore, entries, directoryHalf, arena, lengthsOf, layout}
-use Rattle.layout.specs.Answers.{matches, answer, answerTo, subdivisionNumber, subdivisionNumbered, levelCount, levelRow, census, halfOf, isAft, runWords, runFrom}
-use Rattle.layout.specs.Refusals.{isAccepted, refuse, outOfBounds, badSize, full, badDirectory, offRuler, backward, hasId, noRoom, exceeds, noSuchCode, partitionsHolding, inTooMany, noSuchSlot, timeTests, rowTests, firstBadRow, buildOutcome, tableOf, sameIndex, gives, isIndex, indexTests, addOutcome, removeOutcome, windowTests, roomTest, askOutcome, runOutcome, checkOutcome}
+use Rattle.layout.specs.Answers.{matches, answer, answerBy, answerTo, subdivisionNumber, subdivisionNumbered, levelCount, levelRow, census, halfOf, isAft, runWords, runFrom}
+use Rattle.layout.specs.Refusals.{isAccepted, refuse, outOfBounds, badSize, full, badDirectory, offRuler, backward, hasId, noRoom, exceeds, noSuchCode, partitionsHolding, inTooMany, noSuchSlot, timeTests, rowTests, firstBadRow, buildOutcome, tableOf, sameIndex, gives, isIndex, indexTests, addOutcome, removeOutcome, windowTests, questionTests, roomTest, askOutcome, runOutcome, checkOutcome}
 use Rattle.layout.specs.Calls.{After, Asked, index, ifAccepted, leaving, buildOf, addOf, without, removeOf, askOf, noCensus, censusOf, runOf, runFromOf}
 use Rattle.demands.specs.StandIns.{ruler, all-of, accepted, listed, OnlyOk, RightOnce}
 
@@ -25,10 +26,10 @@ abbrev empty : Index
 empty = index (0 ∷ 0 ∷ 0 ∷ 0 ∷ 0 ∷ 0 ∷ []) (0 ∷ 0 ∷ 0 ∷ 0 ∷ 0 ∷ 0 ∷ []) []
 
 abbrev five : Trip
-five = record { id = 5; start = timeAt 0; end = timeAt 1 }
+five = tripOf 5 0 1
 
 abbrev seven : Trip
-seven = record { id = 7; start = timeAt 1; end = timeAt 1 }
+seven = tripOf 7 1 1
 
 unfoldable with-five : Index
 with-five = addOf ruler empty five .words
@@ -66,10 +67,10 @@ computed : Computed
 unfolding with-five with-seven with-both every same count padded keep insert sort joined upTo inBounds scaleOf cellUp judge codeOf related
     partitionsAt firstCell lastCell within holds holdsTrip isOriginal isIn subdivisionOf isOf belongs tripWords tripAt words rows
     partitions directoryLength halfLength partitionNumber levelOf placeOf slotNumber byId byStart byEnd order slotTrips slot entriesBefore entries
-    directoryHalf arena lengthsOf layout matches answer answerTo over subdivisionNumber subdivisionNumbered levelCount levelRow census halfOf isAft
+    directoryHalf arena lengthsOf layout matches answer answerBy answerTo over subdivisionNumber subdivisionNumbered levelCount levelRow census halfOf isAft
     runWords runFrom isAccepted refuse outOfBounds badSize full badDirectory offRuler backward hasId noRoom exceeds noSuchCode partitionsHolding
     inTooMany noSuchSlot timeTests rowTests firstBadRow buildOutcome tableOf sameIndex gives isIndex indexTests addOutcome removeOutcome windowTests
-    roomTest askOutcome runOutcome checkOutcome ifAccepted leaving buildOf addOf without removeOf askOf noCensus censusOf runOf runFromOf
+    questionTests roomTest askOutcome runOutcome checkOutcome ifAccepted leaving buildOf addOf without removeOf askOf noCensus censusOf runOf runFromOf
 computed = record {
   build-accepts = refl;
   ask-accepts = refl;

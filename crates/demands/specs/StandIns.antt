@@ -4,20 +4,21 @@ use mathlib.Core.Bool.{Bool, true}
 use mathlib.Core.List.{List}
 use Prim.Native.Nat.{ℕ}
 use lib.ListN.{take}
-use Rattle.ruler.specs.Ruler.{Scale, timeAt, scaleOf}
+use Rattle.ruler.specs.Ruler.{Scale, scaleOf, numbersOf}
 use Rattle.trip.specs.declared.Relationship.the-variants.{GOverlaps}
 use Rattle.trip.specs.Relationships.{codeOf}
+use Rattle.trip.specs.Trips.{askingOf}
 use Rattle.layout.specs.Words.{Index}
 use Rattle.layout.specs.Refusals.{isAccepted}
 use Rattle.layout.specs.Calls.{After, Asked, askOf}
 
 -- a ruler of two seconds with one level
 abbrev pub ruler : Scale
-ruler = scaleOf (record { w = 1; m = 0 })
+ruler = scaleOf (numbersOf 1 0)
 
 -- the question for all trips of an index; and the ids that a question lists
 abbrev pub all-of : Index → (list : List ℕ) → Asked
-all-of x list = askOf ruler x (codeOf GOverlaps) (record { start = timeAt 0; end = timeAt 1 }) list
+all-of x list = askOf ruler x (askingOf (codeOf GOverlaps) 0 1) list
 
 abbrev pub listed : Asked → List ℕ
 listed a = take (a .count) (a .answers)

@@ -13,9 +13,8 @@ use lib.ListN.{length, take, drop, length-append}
 use borrow.Rule.Slice.PartMut.{midOf, putMid, mid-len}
 use Rattle.lists.proofs.Lent.{head-lent, head-back}
 use Rattle.ruler.specs.declared.Numbers.{Numbers}
-use Rattle.ruler.specs.Ruler.{Scale, scaleOf}
-use Rattle.trip.specs.declared.Window.{Window}
-use Rattle.trip.specs.Relationships.{named}
+use Rattle.ruler.specs.Ruler.{Scale, scaleOf, bottomOf, numbersOf}
+use Rattle.trip.specs.declared.Asking.{Asking}
 use Rattle.layout.specs.declared.Outcome.{Outcome}
 use Rattle.layout.specs.declared.Outcome.the-variants.{Accepted, Refused}
 use Rattle.layout.specs.Words.{partitions, directoryLength, Index}
@@ -37,11 +36,11 @@ pub cut-turn : (s : State) (line : List ℕ) (k : ℕ) → longestLine < k → t
 cut-turn s line k h = ap (turnOf s) (cut-line line k h)
 
 -- the directory lent has the words that the ruler asks for
-pub in-front : (numbers : Numbers) {n : ℕ} (d : List ℕ) → n ≡ directoryLength (numbers .m) → numbers .m ≤ deepestHere
+pub in-front : (numbers : Numbers) {n : ℕ} (d : List ℕ) → n ≡ directoryLength (bottomOf numbers) → bottomOf numbers ≤ deepestHere
     → directoryLength deepestHere ≤ length d → n ≤ length d
 unfolding directoryLength partitions
 in-front numbers d e deep whole =
-    let m = numbers .m in
+    let m = bottomOf numbers in
     let more : 2 ^ (m + 1) ≤ 2 ^ (deepestHere + 1) = pow-le-pow-right (lit< tt) {i = m + 1} {j = deepestHere + 1} (omega arith) in
     omega arith
 
@@ -50,7 +49,7 @@ pub not-deeper : (started : Bool) (m : ℕ) → (started || ltb deepestHere m) �
 not-deeper false m e = ltb-false deepestHere m e
 not-deeper true m e = let z : _≡_ {A = ℕ} 0 1 = cc in omega arith
 
-module _ (numbers : Numbers) (d o r : List ℕ) (n : ℕ) (long : n ≡ directoryLength (numbers .m)) where
+module _ (numbers : Numbers) (d o r : List ℕ) (n : ℕ) (long : n ≡ directoryLength (bottomOf numbers)) where
   -- what is lent is the index of the ruler
   lent : index (midOf 0 (n - 0) d) o r ≡ shown numbers (index d o r)
   unfolding shown
@@ -71,7 +70,7 @@ module _ (numbers : Numbers) (d o r : List ℕ) (n : ℕ) (long : n ≡ director
         bytes = rw (← e, ← ids) (wrote .1);
       }
 
-  module _ (deep : numbers .m ≤ deepestHere) (whole : directoryLength deepestHere ≤ length d) where
+  module _ (deep : bottomOf numbers ≤ deepestHere) (whole : directoryLength deepestHere ≤ length d) where
     -- and what comes back, as long as what was lent, is put over its front
     back : {d′ o′ r′ : List ℕ} {outcome : Outcome} {a : After} → length d′ ≡ length (midOf 0 (n - 0) d) → after outcome (index d′ o′ r′) ≡ a
         → index (putMid 0 (n - 0) d d′) o′ r′ ≡ writtenBack (a .words) (index d o r)
@@ -121,11 +120,11 @@ module _ (numbers : Numbers) (d o r : List ℕ) (n : ℕ) (long : n ≡ director
         }
 
 -- the ids of a question have room in its answer list, which is as long as before; a refused question has none
-pub count-within : (s : Scale) (x : Index) (code : ℕ) (w : Window) (list : List ℕ) {l′ : List ℕ} {outcome : Outcome} {count : ℕ}
-    → asked outcome count l′ ≡ askOf s x code w list → length l′ ≡ length list → count ≤ length l′
+pub count-within : (s : Scale) (x : Index) (q : Asking) (list : List ℕ) {l′ : List ℕ} {outcome : Outcome} {count : ℕ}
+    → asked outcome count l′ ≡ askOf s x q list → length l′ ≡ length list → count ≤ length l′
 unfolding askOf ifAccepted over
-count-within s x code w list {l′} {outcome} {count} e kept =
-    go (askOutcome s x code w (length list)) (answerTo (named code) w (tableOf s x))
+count-within s x q list {l′} {outcome} {count} e kept =
+    go (askOutcome s x q (length list)) (answerTo q (tableOf s x))
     (ap (λ (a : Asked). a .count) e) (ap (λ (a : Asked). a .answers) e)
   where
     go : (q : Outcome) (ids : List ℕ) → count ≡ ifAccepted q (length ids) 0 → l′ ≡ ifAccepted q (over ids list) list → count ≤ length l′
@@ -143,23 +142,23 @@ module _ (b : Bool) (t u : Turn) {r : Turned} {x : Index} {answers reply₀ repl
   done-else e done = rw e done
 
 -- a line that is only for an open session leaves the ruler as it was, if what it does then leaves it
-whenever : (s : State) (t : Turn) → t .next .desk .numbers .m ≤ deepestHere → s .desk .numbers .m ≤ deepestHere
-    → whenOpen s t .next .desk .numbers .m ≤ deepestHere
+whenever : (s : State) (t : Turn) → bottomOf (t .next .desk .numbers) ≤ deepestHere → bottomOf (s .desk .numbers) ≤ deepestHere
+    → bottomOf (whenOpen s t .next .desk .numbers) ≤ deepestHere
 unfolding badLine
 whenever s t k h = go (s .desk .started)
   where
-    go : (b : Bool) → cond b t (badLine s) .next .desk .numbers .m ≤ deepestHere
+    go : (b : Bool) → bottomOf (cond b t (badLine s) .next .desk .numbers) ≤ deepestHere
     go true = k
     go false = h
 
 -- every turn leaves a ruler of the session
-pub keeps : (s : State) (c : Command) → s .desk .numbers .m ≤ deepestHere → turnOf s c .next .desk .numbers .m ≤ deepestHere
+pub keeps : (s : State) (c : Command) → bottomOf (s .desk .numbers) ≤ deepestHere → bottomOf (turnOf s c .next .desk .numbers) ≤ deepestHere
 unfolding turnOf badLine opened edited answered
 keeps s Bad h = h
 keeps s (Ruler w m) h = go (s .desk .started || ltb deepestHere m) refl
   where
     go : (t : Bool) → (s .desk .started || ltb deepestHere m) ≡ t
-        → cond t (badLine s) (opened s (record { w = w; m = m })) .next .desk .numbers .m ≤ deepestHere
+        → bottomOf (cond t (badLine s) (opened s (numbersOf w m)) .next .desk .numbers) ≤ deepestHere
     go true e = h
     go false e = not-deeper (s .desk .started) m e
 keeps s (Add i st end) h = whenever s _ h h
@@ -167,5 +166,5 @@ keeps s (Remove i) h = whenever s _ h h
 keeps s (Ask c st end) h = whenever s _ h h
 
 pub done-keeps : (s : State) (c : Command) {r : Turned} {x : Index} {answers reply₀ reply : List ℕ} → Done (turnOf s c) r x answers reply₀ reply
-    → s .desk .numbers .m ≤ deepestHere → r .desk .numbers .m ≤ deepestHere
+    → bottomOf (s .desk .numbers) ≤ deepestHere → bottomOf (r .desk .numbers) ≤ deepestHere
 done-keeps s c done h = rw (ap (λ (y : State). y .desk) (done .next)) (keeps s c h)

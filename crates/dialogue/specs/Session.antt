@@ -7,9 +7,10 @@ use lib.Dec.{ltb}
 use lib.ListN.{length, take, replicate}
 use lib.Seq.{sets}
 use Rattle.ruler.specs.declared.Numbers.{Numbers}
-use Rattle.ruler.specs.Ruler.{timeAt, scaleOf}
+use Rattle.ruler.specs.Ruler.{scaleOf, bottomOf, numbersOf}
 use Rattle.trip.specs.declared.Trip.{Trip}
-use Rattle.trip.specs.declared.Window.{Window}
+use Rattle.trip.specs.declared.Asking.{Asking}
+use Rattle.trip.specs.Trips.{tripOf, askingOf}
 use Rattle.layout.specs.Words.{entryWords, directoryLength, Index}
 use Rattle.lists.specs.Lists.{over}
 use Rattle.layout.specs.Refusals.{isAccepted}
@@ -57,7 +58,7 @@ pub record Turn : Type 0 where
 
 -- the index of a ruler in the words lent: its directory is as long as the ruler asks
 unfoldable pub shown : Numbers → Index → Index
-shown n x = index (take (directoryLength (n .m)) (x .directory)) (x .originals) (x .replicas)
+shown n x = index (take (directoryLength (bottomOf n)) (x .directory)) (x .originals) (x .replicas)
 
 -- the words lent, with that index written back
 unfoldable pub writtenBack : Index → Index → Index
@@ -100,8 +101,8 @@ added s t = edited s (addOf (scaleOf (s .desk .numbers)) (shown (s .desk .number
 abbrev pub removed : State → (id : ℕ) → Turn
 removed s i = edited s (removeOf (scaleOf (s .desk .numbers)) (shown (s .desk .numbers) (s .words)) i)
 
-abbrev pub questioned : State → (code : ℕ) → Window → Turn
-questioned s c w = answered s (askOf (scaleOf (s .desk .numbers)) (shown (s .desk .numbers) (s .words)) c w (s .answers))
+abbrev pub questioned : State → Asking → Turn
+questioned s q = answered s (askOf (scaleOf (s .desk .numbers)) (shown (s .desk .numbers) (s .words)) q (s .answers))
 
 -- a line that is only for an open session: "a T, X or Q before D is malformed"
 abbrev pub whenOpen : State → Turn → Turn
@@ -110,10 +111,10 @@ whenOpen s t = cond (s .desk .started) t (badLine s)
 -- what a command does; "m above 8 is a malformed line", and so is "a second D"
 unfoldable pub turnOf : State → Command → Turn
 turnOf s Bad = badLine s
-turnOf s (Ruler w m) = cond (s .desk .started || ltb deepestHere m) (badLine s) (opened s (record { w = w; m = m }))
-turnOf s (Add i st end) = whenOpen s (added s (record { id = i; start = timeAt st; end = timeAt end }))
+turnOf s (Ruler w m) = cond (s .desk .started || ltb deepestHere m) (badLine s) (opened s (numbersOf w m))
+turnOf s (Add i st end) = whenOpen s (added s (tripOf i st end))
 turnOf s (Remove i) = whenOpen s (removed s i)
-turnOf s (Ask c st end) = whenOpen s (questioned s c (record { start = timeAt st; end = timeAt end }))
+turnOf s (Ask c st end) = whenOpen s (questioned s (askingOf c st end))
 
 -- The whole session: what is written for the lines, one after another, until one ends it.
 unfoldable pub writesFor : State → List (List ℕ) → List ℕ
@@ -123,7 +124,7 @@ writesFor s (line ∷ lines) = let t = turnOf s (commandOf line) in t .writes ++
 -- at the start: nothing is open, and all words lent are 0
 unfoldable pub start : State
 start =
-    state (record { started = false; numbers = record { w = 0; m = 0 } })
+    state (record { started = false; numbers = numbersOf 0 0 })
     (index (replicate (directoryLength deepestHere) 0) (replicate (entryWords * mostOriginals) 0) (replicate (entryWords * mostReplicas) 0))
     (replicate mostAnswers 0)
 
@@ -143,10 +144,10 @@ pub record Done (t : Turn) (r : Turned) (x : Index) (answers reply₀ reply : Li
 
 -- the words lent have room for a turn: the directory for every ruler of the session, and the reply for a line that lists no ids
 abbrev pub Room : Numbers → (directory reply : List ℕ) → Type 0
-Room n directory reply = (n .m ≤ deepestHere) × (directoryLength deepestHere ≤ length directory) × (shortReply ≤ length reply)
+Room n directory reply = (bottomOf n ≤ deepestHere) × (directoryLength deepestHere ≤ length directory) × (shortReply ≤ length reply)
 
 -- and for a question, the reply for every list of answers
 abbrev pub RoomToAnswer : Numbers → (directory answers reply : List ℕ) → Type 0
 RoomToAnswer n directory answers reply =
-    (n .m ≤ deepestHere) × (directoryLength deepestHere ≤ length directory) × (length answers ≤ mostAnswers)
+    (bottomOf n ≤ deepestHere) × (directoryLength deepestHere ≤ length directory) × (length answers ≤ mostAnswers)
     × (mostReply ≤ length reply)

@@ -4,11 +4,10 @@ use crate::Turned;
 use crate::reply;
 use layout::is_accepted;
 use ruler::Numbers;
-use ruler::Time;
 use store::counting::directory_length;
 use text::Command;
+use trip::Asking;
 use trip::Trip;
-use trip::Window;
 ghost use mathlib.Core.Path.{_≡_};
 ghost use mathlib.Core.Bool.{true};
 ghost use mathlib.Core.List.{List};
@@ -20,9 +19,18 @@ ghost use Rattle.text.specs.declared.Command.the-variants.{Ruler, Add, Remove, 
 ghost use Rattle.text.specs.Command.{commandOf};
 ghost use Rattle.dialogue.specs.Reply.{shortReply};
 ghost use Rattle.dialogue.specs.Session.{deepestHere, state, Done, badLine, opened, added, removed, questioned, turnOf, turned, Room, RoomToAnswer};
+ghost use Rattle.ruler.specs.Ruler.{deepest, bottomOf};
 
 // The deepest level that a D line may name.
 const DEEPEST_HERE: u32 = 8;
+
+// The words of a directory for these numbers, whose deepest level a session may have.
+fn directory_words(numbers: Numbers) -> usize
+    requires { ⌜ bottomOf numbers ≤ deepest ⌝ }
+    ensures { λ r. ⌜ r ≡ directoryLength (bottomOf numbers) ⌝ }
+{
+    directory_length(numbers.bottom())
+}
 
 // A turn after which the next line is read.
 fn goes_on(desk: Desk, written: usize) -> Turned
@@ -64,7 +72,7 @@ fn open_turn(
         (index (now (directory .exit)) (now (originals .exit)) (now (replicas .exit))) l
         (now (reply .entry)) (now (reply .exit))) ⌝ }
 {
-    let n = directory_length(numbers.m);
+    let n = directory_words(numbers);
     let no_rows = [0u32; 1];
     let outcome = build::build(
         numbers,
@@ -102,7 +110,7 @@ fn add_turn(
         (now (reply .entry)) (now (reply .exit))) ⌝ }
 {
     let numbers = desk.numbers;
-    let n = directory_length(numbers.m);
+    let n = directory_words(numbers);
     let outcome = edit::add(numbers, &mut directory[0..n], originals, replicas, t);
     let written = reply::put_outcome(reply, outcome);
     goes_on(desk, written)
@@ -125,7 +133,7 @@ fn remove_turn(
         (now (reply .entry)) (now (reply .exit))) ⌝ }
 {
     let numbers = desk.numbers;
-    let n = directory_length(numbers.m);
+    let n = directory_words(numbers);
     let outcome = edit::remove(numbers, &mut directory[0..n], originals, replicas, id);
     let written = reply::put_outcome(reply, outcome);
     goes_on(desk, written)
@@ -134,8 +142,7 @@ fn remove_turn(
 // A Q line.
 fn ask_turn<'a>(
     desk: Desk,
-    code: u32,
-    window: Window,
+    asking: Asking,
     directory: &[u32],
     originals: &'a [u32],
     replicas: &'a [u32],
@@ -146,19 +153,18 @@ fn ask_turn<'a>(
     ensures { λ r.
         ⌜ Done
         (questioned (state desk (index (now (directory .entry)) (now (originals .entry)) (now (replicas .entry))) (now (answers .entry)))
-        code window) r
+        asking) r
         (index (now (directory .entry)) (now (originals .entry)) (now (replicas .entry))) (now (answers .exit))
         (now (reply .entry)) (now (reply .exit)) ⌝ }
 {
     let numbers = desk.numbers;
-    let n = directory_length(numbers.m);
+    let n = directory_words(numbers);
     let asked = ask::ask(
         numbers,
         &directory[0..n],
         originals,
         replicas,
-        code,
-        window,
+        asking,
         answers,
     );
     let outcome = asked.outcome;
@@ -212,11 +218,7 @@ fn add_line(
     if !desk.started {
         return bad_turn(desk, reply);
     }
-    let t = Trip {
-        id,
-        start: Time::at(start),
-        end: Time::at(end),
-    };
+    let t = Trip::of(id, start, end);
     add_turn(desk, t, directory, originals, replicas, reply)
 }
 
@@ -265,20 +267,8 @@ fn ask_line<'a>(
     if !desk.started {
         return bad_turn(desk, reply);
     }
-    let window = Window {
-        start: Time::at(start),
-        end: Time::at(end),
-    };
-    ask_turn(
-        desk,
-        code,
-        window,
-        directory,
-        originals,
-        replicas,
-        answers,
-        reply,
-    )
+    let asking = Asking::of(code, start, end);
+    ask_turn(desk, asking, directory, originals, replicas, answers, reply)
 }
 
 // The turn of a line, given without its newline.

@@ -15,9 +15,8 @@ use Rattle.layout.specs.declared.Half.{Half}
 use Rattle.layout.specs.declared.Half.the-variants.{Originals, Replicas}
 use Rattle.layout.specs.declared.Outcome.the-variants.{Accepted}
 use Rattle.layout.specs.Words.{Index, lengthsOf, layout}
-use Rattle.layout.specs.Refusals.{tableOf, addOutcome, removeOutcome}
+use Rattle.layout.specs.Refusals.{tableOf, addOutcome, removeOutcome, Fits}
 use Rattle.layout.specs.Calls.{index}
-use Rattle.layout.proofs.Partitions.{Fits}
 use Rattle.layout.proofs.Indexes.{Indexed}
 use Rattle.layout.proofs.Edited.{of-add, of-remove}
 use Rattle.edit.specs.Halves.{HalfOf, Adding, Removing}

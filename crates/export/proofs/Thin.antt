@@ -5,7 +5,7 @@ use mathlib.Core.List.{List}
 use Prim.Native.Nat.{ℕ, _^_, _<_}
 use native.Mathlib.Omega.{arith}
 use lib.Dec.{ltb}
-use Rattle.ruler.specs.Ruler.{scaleOf}
+use Rattle.ruler.specs.Ruler.{scaleOf, numbersOf}
 use Rattle.layout.specs.declared.Outcome.{Outcome}
 use Rattle.layout.specs.declared.Outcome.the-variants.{Accepted, Refused}
 use Rattle.layout.specs.Words.{Index}
@@ -15,7 +15,7 @@ use Rattle.view.specs.declared.Place.{Place}
 use Rattle.view.specs.Views.{placeOf}
 use Rattle.view.proofs.Entries.{run-ends}
 use Rattle.export.specs.declared.Said.{Said}
-use Rattle.export.specs.Said.{saidOf, left, leftOf, told, toldOf, counted, numbers, shown, firstOfReplicas, arenaOf, runSaid}
+use Rattle.export.specs.Said.{saidOf, left, leftOf, told, toldOf, counted, shown, firstOfReplicas, arenaOf, runSaid}
 
 -- a call that leaves words
 pub left-so : {r : Said} {o : Outcome} {x : Index} {a : After} → r ≡ saidOf o → after o x ≡ a → left r x ≡ leftOf a
@@ -36,11 +36,11 @@ unfolding isAccepted ifAccepted arenaOf
 arena-said Accepted d b e = ap (λ (c : Bool). cond c 0 1) (sym e)
 arena-said (Refused why k) d b e = ap (λ (c : Bool). cond c 0 1) (sym e)
 
-module _ (w m L i d : ℕ) (x : Index) {p : Place} (e : p ≡ placeOf (scaleOf (numbers w m)) x L i d) where
+module _ (w m L i d : ℕ) (x : Index) {p : Place} (e : p ≡ placeOf (scaleOf (numbersOf w m)) x L i d) where
   -- its words are few, so that 32 bits tell where it begins and how long it is
   pub run-small : (p .from < 2 ^ 32) × (p .length < 2 ^ 32)
   run-small =
-      let ends = run-ends (scaleOf (numbers w m)) x L i d in
+      let ends = run-ends (scaleOf (numbersOf w m)) x L i d in
       rw e (omega (arith, ends), omega (arith, ends))
 
   pub run-shown : {k a : ℕ} → k ≡ numberOf (p .outcome) → a ≡ ifAccepted (p .outcome) (arenaOf d) 0

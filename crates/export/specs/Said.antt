@@ -4,10 +4,8 @@ use mathlib.Core.Bool.{cond}
 use Prim.Native.Nat.{ℕ}
 use lib.Dec.{ltb}
 use lib.ListN.{length}
-use Rattle.ruler.specs.declared.Numbers.{Numbers}
-use Rattle.ruler.specs.Ruler.{timeAt, scaleOf}
-use Rattle.trip.specs.declared.Trip.{Trip}
-use Rattle.trip.specs.declared.Window.{Window}
+use Rattle.ruler.specs.Ruler.{scaleOf, numbersOf}
+use Rattle.trip.specs.Trips.{tripOf, askingOf}
 use Rattle.layout.specs.declared.Outcome.{Outcome}
 use Rattle.layout.specs.Words.{Index}
 use Rattle.layout.specs.Refusals.{numberOf, detailOf, checkOutcome, runOutcome}
@@ -41,30 +39,20 @@ told t l = record { told = t; answers = l }
 abbrev pub toldOf : Asked → Heard
 toldOf a = told (record { number = numberOf (a .outcome); detail = detailOf (a .outcome); count = a .count }) (a .answers)
 
--- the numbers of a call, as the entry takes them
-abbrev pub numbers : (w m : ℕ) → Numbers
-numbers w m = record { w = w; m = m }
-
-abbrev pub trip : (id start end : ℕ) → Trip
-trip i s e = record { id = i; start = timeAt s; end = timeAt e }
-
-abbrev pub window : (start end : ℕ) → Window
-window s e = record { start = timeAt s; end = timeAt e }
-
 unfoldable pub buildSaid : (w m : ℕ) → (table : List ℕ) → Index → Left
-buildSaid w m table x = leftOf (buildOf (scaleOf (numbers w m)) table x)
+buildSaid w m table x = leftOf (buildOf (scaleOf (numbersOf w m)) table x)
 
 unfoldable pub checkSaid : (w m : ℕ) → Index → Said
-checkSaid w m x = saidOf (checkOutcome (scaleOf (numbers w m)) x)
+checkSaid w m x = saidOf (checkOutcome (scaleOf (numbersOf w m)) x)
 
 unfoldable pub addSaid : (w m id start end : ℕ) → Index → Left
-addSaid w m i s e x = leftOf (addOf (scaleOf (numbers w m)) x (trip i s e))
+addSaid w m i s e x = leftOf (addOf (scaleOf (numbersOf w m)) x (tripOf i s e))
 
 unfoldable pub removeSaid : (w m id : ℕ) → Index → Left
-removeSaid w m i x = leftOf (removeOf (scaleOf (numbers w m)) x i)
+removeSaid w m i x = leftOf (removeOf (scaleOf (numbersOf w m)) x i)
 
 unfoldable pub askSaid : (w m code start end : ℕ) → Index → (answers : List ℕ) → Heard
-askSaid w m c s e x l = toldOf (askOf (scaleOf (numbers w m)) x c (window s e) l)
+askSaid w m c s e x l = toldOf (askOf (scaleOf (numbersOf w m)) x (askingOf c s e) l)
 
 -- a census: the number, and the eleven rows of four counts
 pub record Counted : Type 0 where
@@ -75,7 +63,7 @@ abbrev pub counted : Said → List (List ℕ) → Counted
 counted s c = record { said = s; counts = c }
 
 unfoldable pub censusSaid : (w m : ℕ) → Index → Counted
-censusSaid w m x = counted (checkSaid w m x) (censusOf (scaleOf (numbers w m)) x)
+censusSaid w m x = counted (checkSaid w m x) (censusOf (scaleOf (numbersOf w m)) x)
 
 -- a run: which arena it is a part of (0 the originals, 1 the replicas), the word of the arena at which it begins, and its words. The
 -- detail of its refusals is always 0. A refused run is an empty part of the originals.
@@ -90,6 +78,6 @@ shown n a o l = record { number = n; arena = a; offset = o; length = l }
 
 unfoldable pub runSaid : (w m level partition subdivision : ℕ) → Index → Shown
 runSaid w m L i d x =
-    let s = scaleOf (numbers w m) in
+    let s = scaleOf (numbersOf w m) in
     let o = runOutcome s x L i d in
     shown (numberOf o) (ifAccepted o (arenaOf d) 0) (runFromOf s x L i d) (length (runOf s x L i d))

@@ -2,9 +2,8 @@
 // numbers of document 01, and does nothing else.
 use layout::Outcome;
 use ruler::Numbers;
-use ruler::Time;
+use trip::Asking;
 use trip::Trip;
-use trip::Window;
 use view::LEVELS;
 use view::SUBDIVISIONS;
 ghost use mathlib.Core.Path.{_≡_};
@@ -103,11 +102,7 @@ pub extern "C" fn kheyambo_add(
         ⌜ left r (index (now (directory .exit)) (now (originals .exit)) (now (replicas .exit)))
         ≡ addSaid w m id start end (index (now (directory .entry)) (now (originals .entry)) (now (replicas .entry))) ⌝ }
 {
-    let t = Trip {
-        id,
-        start: Time::at(start),
-        end: Time::at(end),
-    };
+    let t = Trip::of(id, start, end);
     in_numbers(edit::add(Numbers { w, m }, directory, originals, replicas, t))
 }
 
@@ -143,17 +138,13 @@ pub extern "C" fn kheyambo_ask<'a>(
         ⌜ told r (now (answers .exit))
         ≡ askSaid w m code start end (index (now (directory .entry)) (now (originals .entry)) (now (replicas .entry))) (now (answers .entry)) ⌝ }
 {
-    let window = Window {
-        start: Time::at(start),
-        end: Time::at(end),
-    };
+    let asking = Asking::of(code, start, end);
     let answered = ask::ask(
         Numbers { w, m },
         directory,
         originals,
         replicas,
-        code,
-        window,
+        asking,
         answers,
     );
     let outcome = answered.outcome;

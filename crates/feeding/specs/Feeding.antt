@@ -13,6 +13,7 @@ use Rattle.text.specs.Command.{commandOf, longestLine}
 use Rattle.feeding.specs.declared.Standing.{Standing}
 use Rattle.feeding.specs.declared.Fed.{Fed}
 use Rattle.dialogue.specs.Session.{deepestHere, mostAnswers, mostReply, State, state, turnOf, start}
+use Rattle.ruler.specs.Ruler.{bottomOf}
 
 -- what is kept of a line: a byte more than any that is not malformed has, so that a longer one stays malformed
 abbrev pub lineKept : ℕ
@@ -80,7 +81,7 @@ heldBy s x l = held (state (s .desk) x l) (take (s .held) (s .line)) (s .more)
 pub record Sound (s : Standing) : Type 0 where
   pub within : s .held ≤ lineKept
   pub zeros : s .line ≡ padded lineKept (take (s .held) (s .line))
-  pub ruler : s .desk .numbers .m ≤ deepestHere
+  pub ruler : bottomOf (s .desk .numbers) ≤ deepestHere
 
 -- the words lent have room for n lines
 pub record Ready (n : ℕ) (directory answers out : List ℕ) : Type 0 where

@@ -19,8 +19,7 @@ use Rattle.layout.specs.declared.Refusal.the-variants.{OffRuler, Backwar
 use Rattle.layout.specs.declared.Outcome.{Outcome}
 use Rattle.layout.specs.declared.Outcome.the-variants.{Accepted, Refused}
 use Rattle.layout.specs.Words.{entryWords, directoryLength, entries, Lengths}
-use Rattle.layout.specs.Refusals.{refuse, isAccepted, outOfBounds, badSize, badDirectory, offRuler, backward, hasId, noRoom, exceeds, mostPartitions, partitionsHolding, inTooMany, timeTests, windowTests, roomTest}
-use Rattle.layout.proofs.Partitions.{Fits}
+use Rattle.layout.specs.Refusals.{refuse, isAccepted, outOfBounds, badSize, badDirectory, offRuler, backward, hasId, noRoom, exceeds, mostPartitions, partitionsHolding, inTooMany, timeTests, windowTests, roomTest, onRuler, OnRuler}
 
 -- ---- one link
 
@@ -88,19 +87,38 @@ pub to-badDirectory : (s : Scale) (n : ℕ) → n ≡ directoryLength (s .m) →
 unfolding badDirectory
 to-badDirectory s n e = to-not-not (eqb n (directoryLength (s .m))) (rw e (eqb-refl (directoryLength (s .m))))
 
-pub of-times : (s : Scale) (t : Trip) → T (not (offRuler s (t .start) (t .end))) → T (not (backward (t .start) (t .end))) → Fits s t
+-- ---- 4 and 5, of a trip or of a window
+
+pub of-times : (s : Scale) (a b : Time) → T (not (offRuler s a b)) → T (not (backward a b)) → OnRuler s a b
 unfolding offRuler backward
-of-times s t a b =
-    let p = of-and (s .has (t .start)) (s .has (t .end)) (of-not-not (s .has (t .start) && s .has (t .end)) a) in
-    record { starts = p .0; ends = p .1; ordered = nltb→le (t .end .0) (t .start .0) b }
+of-times s a b on not-back =
+    let p = of-and (s .has a) (s .has b) (of-not-not (s .has a && s .has b) on) in
+    record { starts = p .0; ends = p .1; ordered = nltb→le (b .0) (a .0) not-back }
 
-pub to-offRuler : (s : Scale) (t : Trip) → Fits s t → T (not (offRuler s (t .start) (t .end)))
+pub to-offRuler : (s : Scale) (a b : Time) → OnRuler s a b → T (not (offRuler s a b))
 unfolding offRuler
-to-offRuler s t f = to-not-not (s .has (t .start) && s .has (t .end)) (to-and (s .has (t .start)) (s .has (t .end)) (f .starts) (f .ends))
+to-offRuler s a b f = to-not-not (s .has a && s .has b) (to-and (s .has a) (s .has b) (f .starts) (f .ends))
 
-pub to-backward : (s : Scale) (t : Trip) → Fits s t → T (not (backward (t .start) (t .end)))
+pub to-backward : (s : Scale) (a b : Time) → OnRuler s a b → T (not (backward a b))
 unfolding backward
-to-backward s t f = le→nltb (t .end .0) (t .start .0) (f .ordered)
+to-backward s a b f = le→nltb (b .0) (a .0) (f .ordered)
+
+-- the two tests pass exactly where the times are on the ruler
+pub times-pass : (s : Scale) (a b : Time) (k : ℕ) (rest : Outcome) → OnRuler s a b → timeTests s a b k rest ≡ rest
+unfolding timeTests
+times-pass s a b k rest f = refuse-pass _ _ k _ (to-offRuler s a b f) ∙ refuse-pass _ _ k _ (to-backward s a b f)
+
+pub times-on : (s : Scale) (a b : Time) (k : ℕ) (rest : Outcome) → timeTests s a b k rest ≡ Accepted → OnRuler s a b
+unfolding timeTests
+times-on s a b k rest e = let p = refuse-no _ _ k _ e in of-times s a b (p .0) (refuse-no _ _ k _ (p .1) .0)
+
+pub of-onRuler : (s : Scale) (a b : Time) → T (onRuler s a b) → OnRuler s a b
+unfolding onRuler
+of-onRuler s a b t = times-on s a b 0 Accepted (of-accepted _ t)
+
+pub to-onRuler : (s : Scale) (a b : Time) → OnRuler s a b → T (onRuler s a b)
+unfolding onRuler isAccepted
+to-onRuler s a b f = rw (times-pass s a b 0 Accepted f) tt
 
 -- the chain of both, by what the code found of each time
 pub off-said : (s : Scale) (start end : Time) {a b : Bool} (v : Bool) → a ≡ s .has start → b ≡ s .has end → not (a && b) ≡ v
@@ -175,11 +193,20 @@ pub of-room : (n room : ℕ) → roomTest n room ≡ Accepted → n ≤ room
 unfolding roomTest exceeds
 of-room n room e = nltb→le room n (refuse-no _ NoRoom n Accepted e .0)
 
--- ---- 4 and 5 of a window
+-- ---- 9, 4 and 5 of a question
 
 pub window-pass : (s : Scale) (w : Window) (rest : Outcome) → windowTests s w Accepted ≡ Accepted → windowTests s w rest ≡ rest
-unfolding windowTests timeTests
-window-pass s w rest e =
-    let a = refuse-no _ _ 0 _ e in
-    let b = refuse-no _ _ 0 _ (a .1) in
-    refuse-pass _ _ 0 _ (a .0) ∙ refuse-pass _ _ 0 _ (b .0)
+unfolding windowTests
+window-pass s w rest e = times-pass s (w .start) (w .end) 0 rest (times-on s (w .start) (w .end) 0 Accepted e)
+
+-- a refusal of the window's stands for every rest, with detail 0
+pub window-refused : (s : Scale) (w : Window) (why : Refusal) (d : ℕ) (rest : Outcome) → windowTests s w Accepted ≡ Refused why d
+    → windowTests s w rest ≡ Refused why 0
+unfolding windowTests timeTests refuse
+window-refused s w why d rest e = go (offRuler s (w .start) (w .end)) (backward (w .start) (w .end)) e
+  where
+    go : (a b : Bool) → refuse a OffRuler 0 (refuse b Backward 0 Accepted) ≡ Refused why d
+        → refuse a OffRuler 0 (refuse b Backward 0 rest) ≡ Refused why 0
+    go true b q = let p : OffRuler ≡ why = cc in rw p
+    go false true q = let p : Backward ≡ why = cc in rw p
+    go false false q = refused-not why d (sym q)

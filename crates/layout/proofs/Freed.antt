@@ -15,12 +15,11 @@ use Rattle.layout.specs.declared.Half.{Half}
 use Rattle.layout.specs.declared.Half.the-variants.{Originals, Replicas}
 use Rattle.layout.specs.declared.Outcome.the-variants.{Accepted}
 use Rattle.layout.specs.Words.{entryWords, words, rows, entries, Index}
-use Rattle.layout.specs.Refusals.{IndexOf, tableOf, rowTests, addOutcome}
+use Rattle.layout.specs.Refusals.{IndexOf, tableOf, rowTests, addOutcome, Fits}
 use Rattle.layout.specs.Calls.{without, removeOf}
 use Rattle.layout.proofs.RowOrder.{Distinct, entries-same}
 use Rattle.layout.proofs.Slots.{same-id}
 use Rattle.layout.proofs.Rows.{rows-words}
-use Rattle.layout.proofs.Partitions.{Fits}
 use Rattle.layout.proofs.Tables.{of-rowTests}
 use Rattle.layout.proofs.Indexes.{given-table, given-indexed}
 use Rattle.layout.proofs.RoomAdded.{entries-added}

@@ -10,7 +10,7 @@ use Rattle.lists.proofs.Members.{In, length-sort}
 use Rattle.ruler.specs.Ruler.{Scale, deepest}
 use Rattle.ruler.proofs.Fair.{Fair}
 use Rattle.trip.specs.declared.Trip.{Trip}
-use Rattle.trip.specs.declared.Window.{Window}
+use Rattle.trip.specs.declared.Asking.{Asking}
 use Rattle.trip.specs.declared.Question.{Question}
 use Rattle.trip.specs.declared.Relationship.{Relationship}
 use Rattle.trip.specs.declared.Named.the-variants.{As}
@@ -22,8 +22,8 @@ use Rattle.layout.specs.declared.Subdivision.the-variants.{OIn, OAft, RI
 use Rattle.layout.specs.declared.Outcome.the-variants.{Accepted}
 use Rattle.layout.specs.Stored.{partitionsAt}
 use Rattle.layout.specs.Words.{entryWords, rows, words, slotNumber, slotTrips, entries, Index}
-use Rattle.layout.specs.Answers.{matches, answer, question, answerTo, levelCount, levelRow, census, halfOf, isAft, runWords, runFrom}
-use Rattle.layout.specs.Refusals.{IndexOf, tableOf, noSuchCode, windowTests, roomTest, askOutcome}
+use Rattle.layout.specs.Answers.{matches, answer, question, answerBy, answerTo, levelCount, levelRow, census, halfOf, isAft, runWords, runFrom}
+use Rattle.layout.specs.Refusals.{IndexOf, tableOf, noSuchCode, windowTests, questionTests, roomTest, askOutcome}
 use Rattle.layout.specs.Calls.{asked, ifAccepted, askOf}
 use Rattle.layout.proofs.Chains.{refuse-pass, window-pass}
 use Rattle.layout.proofs.RowOrder.{Distinct, slotTrips-same, before-same, entries-same, length-same}
@@ -90,23 +90,23 @@ module _ (s : Scale) (fair : Fair s) (table : List ℕ) (x : Index) (g : IndexOf
   given-run-from L i d = of-the-two (λ (ts : List Trip). runFrom s ts L i d) (λ ts us n e f b. runFrom-same s ts us n e f b L i d)
 
   -- a question whose window is on the ruler, and not backward
-  module _ (code : ℕ) (r : Relationship) (is : named code ≡ As r) (w : Window) where
-    given-ids : answerTo (named code) w (tableOf s x) ≡ answer (question r w) (rows table)
-    unfolding answerTo
-    given-ids = rw is (given-answer (question r w))
+  module _ (q : Asking) (r : Relationship) (is : named (q .code) ≡ As r) where
+    given-ids : answerTo q (tableOf s x) ≡ answer (question r q) (rows table)
+    unfolding answerTo answerBy
+    given-ids = rw is (given-answer (question r q))
 
     -- 7 decides, by the matches of the table
-    pub given-outcome : (room : ℕ) → windowTests s w Accepted ≡ Accepted
-        → askOutcome s x code w room ≡ roomTest (length (matches (question r w) (rows table))) room
-    unfolding askOutcome noSuchCode
+    pub given-outcome : (room : ℕ) → windowTests s (q .window) Accepted ≡ Accepted
+        → askOutcome s x q room ≡ roomTest (length (matches (question r q) (rows table))) room
+    unfolding askOutcome questionTests noSuchCode
     given-outcome room ok =
         to-indexTests s x _ (given-indexed s fair table x g)
-        ∙ refuse-pass _ _ 0 _ (rw (named-within code is) tt)
-        ∙ window-pass s w _ ok
-        ∙ ap (λ (k : ℕ). roomTest k room) (ap length given-ids ∙ answer-count (question r w) (rows table))
+        ∙ refuse-pass _ _ 0 _ (rw (named-within (q .code) is) tt)
+        ∙ window-pass s (q .window) _ ok
+        ∙ ap (λ (k : ℕ). roomTest k room) (ap length given-ids ∙ answer-count (question r q) (rows table))
 
     -- and an accepted question lists them
-    pub given-asked : (list : List ℕ) → askOutcome s x code w (length list) ≡ Accepted → askOf s x code w list
-        ≡ asked Accepted (length (answer (question r w) (rows table))) (over (answer (question r w) (rows table)) list)
+    pub given-asked : (list : List ℕ) → askOutcome s x q (length list) ≡ Accepted → askOf s x q list
+        ≡ asked Accepted (length (answer (question r q) (rows table))) (over (answer (question r q) (rows table)) list)
     unfolding askOf ifAccepted
     given-asked list e = rw (e, given-ids)

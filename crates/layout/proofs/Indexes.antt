@@ -15,7 +15,7 @@ use Rattle.lists.proofs.Same.{same-eq, same-refl}
 use Rattle.lists.proofs.Upto.{length-upTo, getD-upTo}
 use Rattle.ruler.specs.declared.Numbers.{Numbers}
 use Rattle.ruler.specs.Ruler.{Scale, scaleOf}
-use Rattle.ruler.proofs.Fair.{Fair, fair}
+use Rattle.ruler.proofs.Fair.{Fair, scale-good, fair}
 use Rattle.trip.specs.declared.Trip.{Trip}
 use Rattle.layout.specs.declared.Half.{Half}
 use Rattle.layout.specs.declared.Half.the-variants.{Originals, Replicas}
@@ -168,8 +168,7 @@ given-indexed s fair table x g = indexed s fair (rows table) x (given-table s ta
 
 -- words that are an index are so for a ruler in bounds
 pub given-fair : (n : Numbers) (table : List ℕ) (x : Index) → IndexOf (scaleOf n) table x → Fair (scaleOf n)
-unfolding scaleOf
-given-fair n table x g = fair n (given-table (scaleOf n) table x g .good)
+given-fair n table x g = fair n (rw (scale-good n) at (given-table (scaleOf n) table x g .good))
 
 -- "the index of any table for this ruler and these lengths (a table means one that build accepts)"
 pub index-of-some : (s : Scale) (x : Index) → T (isIndex s x) → IndexOfSome s x

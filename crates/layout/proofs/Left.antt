@@ -11,10 +11,10 @@ use Rattle.ruler.specs.declared.Numbers.{Numbers}
 use Rattle.ruler.specs.Ruler.{Scale, scaleOf}
 use Rattle.ruler.proofs.Fair.{Fair}
 use Rattle.trip.specs.declared.Trip.{Trip}
-use Rattle.trip.specs.declared.Window.{Window}
+use Rattle.trip.specs.declared.Asking.{Asking}
 use Rattle.trip.specs.declared.Relationship.{Relationship}
-use Rattle.trip.specs.Relationships.{codeOf}
-use Rattle.trip.proofs.Codes.{named-code}
+use Rattle.trip.specs.Relationships.{named}
+use Rattle.trip.specs.declared.Named.the-variants.{As}
 use Rattle.layout.specs.declared.Outcome.the-variants.{Accepted}
 use Rattle.layout.specs.Words.{tripWords, words, rows, Index, lengthsOf, layout}
 use Rattle.layout.specs.Answers.{matches, answer, question}
@@ -87,17 +87,18 @@ module _ (s : Scale) (fair : Fair s) (table : List ℕ) (x : Index) (g : IndexOf
 
 -- ---- a question to the index that a build has left, whatever the buffers
 
-pub built-asked : (n : Numbers) (ts : List Trip) (r : Relationship) (w : Window) (ids : List ℕ) → windowTests (scaleOf n) w Accepted ≡ Accepted
-    → answer (question r w) ts ≡ ids → (x : Index) (list : List ℕ) → buildOf (scaleOf n) (words ts) x .outcome ≡ Accepted → length ids ≤ length list
-    → askOf (scaleOf n) (buildOf (scaleOf n) (words ts) x .words) (codeOf r) w list ≡ asked Accepted (length ids) (over ids list)
-built-asked n ts r w ids on-ruler right x list e room =
+pub built-asked : (n : Numbers) (ts : List Trip) (r : Relationship) (a : Asking) (ids : List ℕ) → named (a .code) ≡ As r
+    → windowTests (scaleOf n) (a .window) Accepted ≡ Accepted → answer (question r a) ts ≡ ids → (x : Index) (list : List ℕ)
+    → buildOf (scaleOf n) (words ts) x .outcome ≡ Accepted → length ids ≤ length list
+    → askOf (scaleOf n) (buildOf (scaleOf n) (words ts) x .words) a list ≡ asked Accepted (length ids) (over ids list)
+built-asked n ts r a ids is on-ruler right x list e room =
     let s = scaleOf n in
     let y = buildOf s (words ts) x .words in
     let g = built-left s (words ts) x e .is-index in
     let f = given-fair n (words ts) y g in
-    let q = question r w in
+    let q = question r a in
     let of-rows : answer q (rows (words ts)) ≡ ids = rw rows-words right in
     let many : length (matches q (rows (words ts))) ≡ length ids = sym (answer-count q (rows (words ts))) ∙ ap length of-rows in
-    let accepted = given-outcome s f (words ts) y g (codeOf r) r (named-code r) w (length list) on-ruler
+    let accepted = given-outcome s f (words ts) y g a r is (length list) on-ruler
     ∙ has-room (length (matches q (rows (words ts)))) (length list) (rw many room) in
-    rw of-rows at (given-asked s f (words ts) y g (codeOf r) r (named-code r) w list accepted)
+    rw of-rows at (given-asked s f (words ts) y g a r is list accepted)

@@ -21,8 +21,7 @@ use Rattle.trip.specs.declared.Trip.{Trip}
 use Rattle.layout.specs.declared.Half.{Half}
 use Rattle.layout.specs.declared.Half.the-variants.{Originals, Replicas}
 use Rattle.layout.specs.Words.{entryWords, words, order, partitions, halfLength, directoryLength, subdivisionAt, slot, entriesBefore, entries, directoryHalf, arena, Index, lengthsOf, layout}
-use Rattle.layout.specs.Refusals.{partitionsHolding, tableOf}
-use Rattle.layout.proofs.Partitions.{Fits}
+use Rattle.layout.specs.Refusals.{partitionsHolding, tableOf, Fits}
 use Rattle.layout.proofs.RowOrder.{Distinct, slot-order, slot-sorted}
 use Rattle.layout.proofs.Slots.{of-slot, to-slot, slot-once}
 use Rattle.layout.proofs.Few.{never-eleven}

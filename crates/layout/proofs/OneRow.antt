@@ -8,9 +8,8 @@ use Rattle.trip.specs.declared.Trip.{Trip}
 use Rattle.layout.specs.declared.Refusal.the-variants.{IdTaken, TooManyPartitions}
 use Rattle.layout.specs.declared.Outcome.{Outcome}
 use Rattle.layout.specs.declared.Outcome.the-variants.{Accepted}
-use Rattle.layout.specs.Refusals.{isAccepted, refuse, hasId, inTooMany, timeTests, rowTests}
-use Rattle.layout.proofs.Partitions.{Fits}
-use Rattle.layout.proofs.Chains.{refuse-no, of-times}
+use Rattle.layout.specs.Refusals.{isAccepted, refuse, hasId, inTooMany, timeTests, rowTests, Fits}
+use Rattle.layout.proofs.Chains.{times-on}
 use Rattle.layout.proofs.Links.{andThen, then-refused, then-accepted, is-accepted, time-then}
 
 module _ (s : Scale) (there : List Trip) (t : Trip) (k : ℕ) (o : Outcome) (times : o ≡ timeTests s (t .start) (t .end) k Accepted) where
@@ -28,10 +27,7 @@ module _ (s : Scale) (there : List Trip) (t : Trip) (k : ℕ) (o : Outcome) (tim
   module _ (fine : isAccepted o ≡ true) where
     -- past them the ruler has the trip
     pub row-fits : Fits s t
-    unfolding timeTests
-    row-fits =
-        let a = refuse-no _ _ k _ (sym times ∙ is-accepted o fine) in
-        of-times s t (a .0) (refuse-no _ _ k _ (a .1) .0)
+    row-fits = times-on s (t .start) (t .end) k Accepted (sym times ∙ is-accepted o fine)
 
     -- and 6 and 11 decide
     pub row-decided : (c d : Bool) → hasId (t .id) there ≡ c → inTooMany s t ≡ d

@@ -12,6 +12,7 @@ use Rattle.ruler.proofs.Levels.{up-half, up-bottom, up-lt}
 use Rattle.ruler.proofs.Fair.{Fair}
 use Rattle.trip.specs.declared.Trip.{Trip}
 use Rattle.layout.specs.Stored.{firstCell, lastCell, within, holds, holdsTrip, isOriginal, isIn}
+use Rattle.layout.specs.Refusals.{Fits}
 
 -- one level up: cells twice as wide
 pub width-step : (m L : ℕ) → suc L ≤ m → 2 ^ (m - L) ≡ 2 ^ (m - suc L) * 2
@@ -156,12 +157,6 @@ once m a b x bound p q =
           let e = held-once m a b x L K h (f .1) (take L i t .0) (f .2) in
           (e, rw (← e) (sym (take L i t .1)));
     }
-
--- a trip whose times pass tests 4 and 5
-pub record Fits (s : Scale) (t : Trip) : Type 0 where
-  pub starts : T (s .has (t .start))
-  pub ends : T (s .has (t .end))
-  pub ordered : t .start .0 ≤ t .end .0
 
 module _ (s : Scale) (fair : Fair s) (t : Trip) (fits : Fits s t) where
   cells-ordered : s .cell (t .start) ≤ s .cell (t .end)

@@ -4,18 +4,17 @@ use mathlib.Core.Bool.{true}
 use Prim.Native.Nat.{_^_, _≤_, _<_}
 use Rattle.lists.proofs.Tests.{to-T}
 use Rattle.ruler.specs.declared.Ruler.{Ruler}
-use Rattle.ruler.specs.Ruler.{deepest, inBounds, scaleOf, scale}
-use Rattle.ruler.proofs.Fair.{Fair, bounds, fair}
+use Rattle.ruler.specs.Ruler.{deepest, inBounds, scale}
+use Rattle.ruler.proofs.Fair.{Fair, scale-m, fair}
 use Rattle.trip.specs.declared.Trip.{Trip}
-use Rattle.layout.proofs.Partitions.{Fits}
+use Rattle.layout.specs.Refusals.{Fits}
 
 module _ (r : Ruler) (good : inBounds (r .numbers) ≡ true) where
   pub fair-ruler : Fair (scale r)
   fair-ruler = fair (r .numbers) (to-T good)
 
   pub deep-ruler : scale r .m ≤ deepest
-  unfolding scaleOf
-  deep-ruler = bounds (r .numbers) (to-T good) .deep
+  deep-ruler = scale-m (r .numbers) (to-T good)
 
   pub first-cell : (t : Trip) → Fits (scale r) t → scale r .cell (t .start) < 2 ^ scale r .m
   first-cell t f = fair-ruler .one-of (t .start) (f .starts)

@@ -16,7 +16,8 @@ use Rattle.layout.specs.declared.Half.the-variants.{Originals}
 use Rattle.layout.specs.declared.Subdivision.{Subdivision}
 use Rattle.layout.specs.Stored.{holdsTrip, isOriginal, isIn, subdivisionOf, isOf, belongs}
 use Rattle.layout.specs.Words.{order, partitions, partitionNumber, levelOf, placeOf, slotTrips, slot, entriesBefore, entries}
-use Rattle.layout.proofs.Partitions.{Fits, one-original}
+use Rattle.layout.specs.Refusals.{Fits}
+use Rattle.layout.proofs.Partitions.{one-original}
 use Rattle.layout.proofs.Numbers.{level-number, place-number, numbered, number-place, number-lt}
 use Rattle.layout.proofs.RowOrder.{Distinct}
 

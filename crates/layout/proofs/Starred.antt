@@ -4,23 +4,26 @@ use mathlib.Core.List.{List, [], _∷_}
 use Prim.Native.Nat.{ℕ}
 use lib.Dec.{T}
 use Rattle.lists.specs.Lists.{every, same, count, padded, keep, insert, sort, joined, upTo, over}
-use Rattle.ruler.specs.Ruler.{inBounds, scaleOf, cellUp, judge}
+use Rattle.ruler.specs.Ruler.{inBounds, scaleOf, cellUp, judge, numbersOf}
 use Rattle.trip.specs.declared.Relationship.the-variants.{GOverlaps}
 use Rattle.trip.specs.Relationships.{codeOf, related}
+use Rattle.trip.specs.Trips.{windowOf, askingOf}
+use Rattle.trip.proofs.Codes.{named-code}
 use Rattle.layout.specs.declared.Outcome.the-variants.{Accepted}
 use Rattle.layout.specs.Stored.{partitionsAt, firstCell, lastCell, within, holds, holdsTrip, isOriginal, isIn, subdivisionOf, isOf, belongs}
-use Rattle.layout.specs.Words.{entryWords, tripWords, tripAt, words, rows, partitions, directoryLength, halfLength, partitionNumber, levelOf, placeOf, slotNumber, byId, byStart, byEnd, order, slotTrips, slot, entriesBefore, entries, directoryHalf, arena, lengthsOf, layout}
-use Rattle.layout.specs.Answers.{matches, answer, question, answerTo, subdivisionNumber, subdivisionNumbered, levelCount, levelRow, census, halfOf, isAft, runWords, runFrom}
-use Rattle.layout.specs.Refusals.{isAccepted, refuse, outOfBounds, badSize, full, badDirectory, offRuler, backward, hasId, noRoom, exceeds, noSuchCode, partitionsHolding, inTooMany, noSuchSlot, timeTests, rowTests, firstBadRow, buildOutcome, tableOf, sameIndex, gives, isIndex, indexTests, addOutcome, removeOutcome, windowTests, roomTest, askOutcome, runOutcome, checkOutcome}
+use Rattle.layout.specs.Words.{tripWords, tripAt, words, rows, partitions, directoryLength, halfLength, partitionNumber, levelOf, placeOf, slotNumber, byId, byStart, byEnd, order, slotTrips, slot, entriesBefore, entries, directoryHalf, arena, lengthsOf, layout}
+use Rattle.layout.specs.Answers.{matches, answer, question, answerBy, answerTo, subdivisionNumber, subdivisionNumbered, levelCount, levelRow, census, halfOf, isAft, runWords, runFrom}
+use Rattle.layout.specs.Refusals.{isAccepted, refuse, outOfBounds, badSize, full, badDirectory, offRuler, backward, hasId, noRoom, exceeds, noSuchCode, partitionsHolding, inTooMany, noSuchSlot, timeTests, rowTests, firstBadRow, buildOutcome, tableOf, sameIndex, gives, isIndex, indexTests, addOutcome, removeOutcome, windowTests, questionTests, roomTest, askOutcome, runOutcome, checkOutcome}
 use Rattle.layout.specs.Calls.{ifAccepted, leaving, buildOf, addOf, without, removeOf, askOf, noCensus, censusOf, runOf, runFromOf}
-use Rattle.layout.specs.Examples.{ruler, trip, window, seven, three, nine, four, theIndex, cells, stored, inAll, is, lists, refuses, night, nightLists, asRow, asWindow, AllHold, none, more, starred, fullness}
+use Rattle.layout.specs.Examples.{ruler, seven, three, nine, four, theIndex, cells, stored, inAll, is, lists, refuses, night, nightLists, asRow, asWindow, AllHold, none, more, starred, fullness}
 use Rattle.layout.proofs.Left.{built-asked}
 
 -- what the night's index lists, whatever the buffers: its ids are those of the table, which compute
-night-lists : (start end : ℕ) (ids : List ℕ) → windowTests (ruler 18 10) (window start end) Accepted ≡ Accepted
-    → answer (question GOverlaps (window start end)) (night ∷ []) ≡ ids → nightLists start end ids
+night-lists : (start end : ℕ) (ids : List ℕ) → windowTests (ruler 18 10) (windowOf start end) Accepted ≡ Accepted
+    → answer (question GOverlaps (askingOf (codeOf GOverlaps) start end)) (night ∷ []) ≡ ids → nightLists start end ids
 unfolding nightLists ruler
-night-lists start end ids on-ruler right = built-asked (record { w = 18; m = 10 }) (night ∷ []) GOverlaps (window start end) ids on-ruler right
+night-lists start end ids on-ruler right =
+    built-asked (numbersOf 18 10) (night ∷ []) GOverlaps (askingOf (codeOf GOverlaps) start end) ids (named-code GOverlaps) on-ruler right
 
 -- one statement more of a list (as a function, so that each proof is read at its own statement)
 infixr 5 _also_
@@ -29,12 +32,12 @@ _also_ p rest = more p rest
 
 pub starred-hold : AllHold starred
 unfolding every same count padded keep insert sort joined upTo inBounds scaleOf cellUp judge codeOf related partitionsAt firstCell lastCell within
-    holds holdsTrip isOriginal isIn subdivisionOf isOf belongs entryWords tripWords tripAt words rows partitions directoryLength halfLength
+    holds holdsTrip isOriginal isIn subdivisionOf isOf belongs tripWords tripAt words rows partitions directoryLength halfLength
     partitionNumber levelOf placeOf slotNumber byId byStart byEnd order slotTrips slot entriesBefore entries directoryHalf arena lengthsOf layout
-    matches answer answerTo over subdivisionNumber subdivisionNumbered levelCount levelRow census halfOf isAft runWords runFrom isAccepted refuse
+    matches answer answerBy answerTo over subdivisionNumber subdivisionNumbered levelCount levelRow census halfOf isAft runWords runFrom isAccepted refuse
     outOfBounds badSize full badDirectory offRuler backward hasId noRoom exceeds noSuchCode partitionsHolding inTooMany noSuchSlot timeTests rowTests
-    firstBadRow buildOutcome tableOf sameIndex gives isIndex indexTests addOutcome removeOutcome windowTests roomTest askOutcome runOutcome
-    checkOutcome ifAccepted leaving buildOf addOf without removeOf askOf noCensus censusOf runOf runFromOf ruler trip window seven three nine four
+    firstBadRow buildOutcome tableOf sameIndex gives isIndex indexTests addOutcome removeOutcome windowTests questionTests roomTest askOutcome runOutcome
+    checkOutcome ifAccepted leaving buildOf addOf without removeOf askOf noCensus censusOf runOf runFromOf ruler seven three nine four
     theIndex cells stored inAll is lists refuses night asRow asWindow starred
 starred-hold =
     (refl, refl) also tt also tt also tt also refl
@@ -48,5 +51,5 @@ starred-hold =
 
 -- the edge of a full index, computed on tables of 4,095 and 4,096 trips
 pub fullness-holds : T (every fullness)
-unfolding every fullness full three trip
+unfolding every fullness full three
 fullness-holds = tt

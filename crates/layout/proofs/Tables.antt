@@ -10,11 +10,10 @@ use Rattle.trip.specs.declared.Trip.{Trip}
 use Rattle.layout.specs.declared.Outcome.{Outcome}
 use Rattle.layout.specs.declared.Outcome.the-variants.{Accepted}
 use Rattle.layout.specs.Words.{entryWords, words, rows, directoryLength, Lengths}
-use Rattle.layout.specs.Refusals.{partitionsHolding, mostPartitions, timeTests, rowTests, firstBadRow, buildOutcome}
-use Rattle.layout.proofs.Partitions.{Fits}
+use Rattle.layout.specs.Refusals.{partitionsHolding, mostPartitions, rowTests, firstBadRow, buildOutcome, Fits}
 use Rattle.layout.proofs.RowOrder.{OtherId, Distinct}
 use Rattle.layout.proofs.Rows.{rows-words, words-length, whole, whole-rest, length-rows}
-use Rattle.layout.proofs.Chains.{Sized, Room, refuse-no, refuse-pass, of-outOfBounds, to-outOfBounds, of-badSize, to-badSize, of-badDirectory, to-badDirectory, of-times, to-offRuler, to-backward, of-hasId, to-hasId, of-inTooMany, to-inTooMany, of-noRoom, to-noRoom}
+use Rattle.layout.proofs.Chains.{Sized, Room, refuse-no, refuse-pass, of-outOfBounds, to-outOfBounds, of-badSize, to-badSize, of-badDirectory, to-badDirectory, times-pass, times-on, of-hasId, to-hasId, of-inTooMany, to-inTooMany, of-noRoom, to-noRoom}
 
 -- ---- one row
 
@@ -26,19 +25,17 @@ pub record RowOk (s : Scale) (beside : List Trip) (t : Trip) : Type 0 where
 
 pub of-rowTests : (s : Scale) (beside : List Trip) (t : Trip) (k : ℕ) (rest : Outcome) → rowTests s beside t k rest ≡ Accepted → RowOk s beside t
     × (rest ≡ Accepted)
-unfolding rowTests timeTests
+unfolding rowTests
 of-rowTests s beside t k rest e =
-    let a = refuse-no _ _ k _ e in
-    let b = refuse-no _ _ k _ (a .1) in
-    let c = refuse-no _ _ k _ (b .1) in
+    let fits = times-on s (t .start) (t .end) k _ e in
+    let c = refuse-no _ _ k _ (sym (times-pass s (t .start) (t .end) k _ fits) ∙ e) in
     let d = refuse-no _ _ k _ (c .1) in
-    (record { fits = of-times s t (a .0) (b .0); fresh = of-hasId (t .id) beside (c .0); few = of-inTooMany s t (d .0) }, d .1)
+    (record { fits = fits; fresh = of-hasId (t .id) beside (c .0); few = of-inTooMany s t (d .0) }, d .1)
 
 pub to-rowTests : (s : Scale) (beside : List Trip) (t : Trip) (k : ℕ) (rest : Outcome) → RowOk s beside t → rowTests s beside t k rest ≡ rest
-unfolding rowTests timeTests
+unfolding rowTests
 to-rowTests s beside t k rest w =
-    refuse-pass _ _ k _ (to-offRuler s t (w .fits))
-    ∙ refuse-pass _ _ k _ (to-backward s t (w .fits))
+    times-pass s (t .start) (t .end) k _ (w .fits)
     ∙ refuse-pass _ _ k _ (to-hasId (t .id) beside (w .fresh))
     ∙ refuse-pass _ _ k _ (to-inTooMany s t (w .few))
 

@@ -7,12 +7,12 @@ use lib.ListN.{length, getD}
 use Rattle.lists.specs.Lists.{keep, ascending, joined, upTo}
 use Rattle.ruler.specs.Ruler.{Scale, deepest}
 use Rattle.trip.specs.declared.Trip.{Trip}
-use Rattle.trip.specs.declared.Window.{Window}
+use Rattle.trip.specs.declared.Asking.{Asking}
 use Rattle.trip.specs.declared.Question.{Question}
 use Rattle.trip.specs.declared.Relationship.{Relationship}
 use Rattle.trip.specs.declared.Named.{Named}
 use Rattle.trip.specs.declared.Named.the-variants.{As, Nothing}
-use Rattle.trip.specs.Relationships.{related}
+use Rattle.trip.specs.Relationships.{named, related}
 use Rattle.layout.specs.declared.Half.{Half}
 use Rattle.layout.specs.declared.Half.the-variants.{Originals, Replicas}
 use Rattle.layout.specs.declared.Subdivision.{Subdivision}
@@ -27,13 +27,16 @@ matches q ts = keep (related (q .relationship) (q .window)) ts
 unfoldable pub answer : Question → List Trip → List ℕ
 answer q ts = ascending (map (λ (t : Trip). t .id) (matches q ts))
 
-abbrev pub question : Relationship → Window → Question
-question r w = record { window = w; relationship = r }
+-- a question as it is put, judged by what its code names; a code that names nothing lists nothing
+abbrev pub question : Relationship → Asking → Question
+question r q = record { window = q .window; relationship = r }
 
--- the same by what a code names; a code that names nothing lists nothing
-unfoldable pub answerTo : Named → Window → List Trip → List ℕ
-answerTo (As r) w ts = answer (question r w) ts
-answerTo Nothing w ts = []
+unfoldable pub answerBy : Named → Asking → List Trip → List ℕ
+answerBy (As r) q ts = answer (question r q) ts
+answerBy Nothing q ts = []
+
+unfoldable pub answerTo : Asking → List Trip → List ℕ
+answerTo q ts = answerBy (named (q .code)) q ts
 
 -- "O_in, O_aft, R_in, R_aft (subdivisions 0 to 3)"
 unfoldable pub subdivisionNumber : Subdivision → ℕ

@@ -9,8 +9,7 @@ use lib.ListN.{length, replicate}
 use Rattle.lists.specs.Lists.{keep, over}
 use Rattle.ruler.specs.Ruler.{Scale, deepest}
 use Rattle.trip.specs.declared.Trip.{Trip}
-use Rattle.trip.specs.declared.Window.{Window}
-use Rattle.trip.specs.Relationships.{named}
+use Rattle.trip.specs.declared.Asking.{Asking}
 use Rattle.layout.specs.declared.Outcome.{Outcome}
 use Rattle.layout.specs.declared.Outcome.the-variants.{Accepted, Refused}
 use Rattle.layout.specs.Words.{rows, Index, lengthsOf, layout}
@@ -63,10 +62,10 @@ pub record Asked : Type 0 where
 abbrev pub asked : Outcome → (count : ℕ) → (answers : List ℕ) → Asked
 asked o n l = record { outcome = o; count = n; answers = l }
 
-unfoldable pub askOf : Scale → Index → (code : ℕ) → Window → (answers : List ℕ) → Asked
-askOf s x code w list =
-    let o = askOutcome s x code w (length list) in
-    let ids = answerTo (named code) w (tableOf s x) in
+unfoldable pub askOf : Scale → Index → Asking → (answers : List ℕ) → Asked
+askOf s x q list =
+    let o = askOutcome s x q (length list) in
+    let ids = answerTo q (tableOf s x) in
     asked o (ifAccepted o (length ids) 0) (ifAccepted o (over ids list) list)
 
 -- the census: eleven rows of four counts

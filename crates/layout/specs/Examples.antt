@@ -7,12 +7,12 @@ use Prim.Native.Nat.{ℕ, _≤_}
 use lib.Dec.{T}
 use lib.ListN.{length, replicate}
 use Rattle.lists.specs.Lists.{over}
-use Rattle.ruler.specs.Ruler.{Scale, timeAt, scaleOf}
+use Rattle.ruler.specs.Ruler.{Scale, timeAt, scaleOf, numbersOf}
 use Rattle.trip.specs.declared.Trip.{Trip}
-use Rattle.trip.specs.declared.Window.{Window}
 use Rattle.trip.specs.declared.Relationship.{Relationship}
 use Rattle.trip.specs.declared.Relationship.the-variants.{Overlaps, Contains, Before, After, GOverlaps}
 use Rattle.trip.specs.Relationships.{codeOf}
+use Rattle.trip.specs.Trips.{tripOf, windowOf, askingOf}
 use Rattle.layout.specs.declared.Subdivision.{Subdivision}
 use Rattle.layout.specs.declared.Subdivision.the-variants.{OIn, OAft, RIn, RAft}
 use Rattle.layout.specs.declared.Outcome.{Outcome}
@@ -25,25 +25,19 @@ use Rattle.layout.specs.Calls.{buildOf, asked, askOf}
 -- ---- "Ruler w = 6, m = 4; trips 7 [21,38], 3 [20,20], 9 [0,63], 4 [39,40]."
 
 unfoldable pub ruler : (w m : ℕ) → Scale
-ruler w m = scaleOf (record { w = w; m = m })
-
-unfoldable pub trip : (id start end : ℕ) → Trip
-trip i s e = record { id = i; start = timeAt s; end = timeAt e }
-
-unfoldable pub window : (start end : ℕ) → Window
-window s e = record { start = timeAt s; end = timeAt e }
+ruler w m = scaleOf (numbersOf w m)
 
 unfoldable pub seven : Trip
-seven = trip 7 21 38
+seven = tripOf 7 21 38
 
 unfoldable pub three : Trip
-three = trip 3 20 20
+three = tripOf 3 20 20
 
 unfoldable pub nine : Trip
-nine = trip 9 0 63
+nine = tripOf 9 0 63
 
 unfoldable pub four : Trip
-four = trip 4 39 40
+four = tripOf 4 39 40
 
 -- their index, in arenas for four originals and eight replicas
 unfoldable pub theIndex : Index
@@ -69,23 +63,23 @@ is o number detail = (numberOf o ≡ number) × (detailOf o ≡ detail)
 -- a question to the index, with room for four ids, is accepted and lists these; the words after them stay
 unfoldable pub lists : Relationship → (start end : ℕ) → (ids : List ℕ) → Type 0
 lists r s e ids =
-    askOf (ruler 6 4) theIndex (codeOf r) (window s e) (replicate 4 100) ≡ asked Accepted (length ids) (over ids (replicate 4 100))
+    askOf (ruler 6 4) theIndex (askingOf (codeOf r) s e) (replicate 4 100) ≡ asked Accepted (length ids) (over ids (replicate 4 100))
 
 -- a question under code 13, with room for four ids, gives this number
 unfoldable pub refuses : (start end number : ℕ) → Type 0
-refuses s e n = is (askOutcome (ruler 6 4) theIndex (codeOf GOverlaps) (window s e) 4) n 0
+refuses s e n = is (askOutcome (ruler 6 4) theIndex (askingOf (codeOf GOverlaps) s e) 4) n 0
 
 -- ---- "w = 18, m = 10: 23:40:00 to 25:10:00 is [85200,90600]"
 
 unfoldable pub night : Trip
-night = trip 1 85200 90600
+night = tripOf 1 85200 90600
 
 -- a question under code 13 to the index that a build of this one trip has left, in whatever buffers: with room for the ids it is accepted and
 -- lists these (the directory alone has 8,190 words: the statement speaks of every index, and lays none out)
 unfoldable pub nightLists : (start end : ℕ) → (ids : List ℕ) → Type 0
 nightLists s e ids =
     (x : Index) (list : List ℕ) → buildOf (ruler 18 10) (words (night ∷ [])) x .outcome ≡ Accepted → length ids ≤ length list
-    → askOf (ruler 18 10) (buildOf (ruler 18 10) (words (night ∷ [])) x .words) (codeOf GOverlaps) (window s e) list
+    → askOf (ruler 18 10) (buildOf (ruler 18 10) (words (night ∷ [])) x .words) (askingOf (codeOf GOverlaps) s e) list
     ≡ asked Accepted (length ids) (over ids list)
 
 -- a trip as the only row of a table, and a window with these times
@@ -93,7 +87,7 @@ unfoldable pub asRow : Trip → Outcome
 asRow t = buildOutcome (ruler 18 10) (words (t ∷ [])) (record { directory = directoryLength 10; originals = 3; replicas = 60 })
 
 unfoldable pub asWindow : (start end : ℕ) → Outcome
-asWindow s e = windowTests (ruler 18 10) (window s e) Accepted
+asWindow s e = windowTests (ruler 18 10) (windowOf s e) Accepted
 
 -- ---- the starred examples
 
@@ -138,7 +132,7 @@ starred =
     ∷ is (asRow night) 0 0
     ∷ nightLists 88200 88800 (1 ∷ [])
     ∷ nightLists 1800 2400 []
-    ∷ is (asRow (trip 1 85200 4200)) 5 0
+    ∷ is (asRow (tripOf 1 85200 4200)) 5 0
     ∷ is (asWindow 85200 4200) 5 0
     ∷ []
 

@@ -3,15 +3,16 @@
 use mathlib.Core.Path.{_≡_}
 use mathlib.Core.Bool.{Bool, true, false, not, _&&_, _||_}
 use mathlib.Core.List.{List, [], _∷_}
-use Prim.Native.Nat.{ℕ, suc, _+_, _*_, _/_, _%_}
-use lib.Dec.{leb, ltb, eqb}
+use Prim.Native.Nat.{ℕ, suc, _+_, _*_, _/_, _%_, _≤_}
+use lib.Dec.{T, leb, ltb, eqb}
 use lib.ListN.{length, getD, take}
 use Rattle.lists.specs.Lists.{count, same}
 use Rattle.ruler.specs.declared.Time.{Time}
 use Rattle.ruler.specs.Ruler.{Scale, mostTrips, before}
 use Rattle.trip.specs.declared.Trip.{Trip}
 use Rattle.trip.specs.declared.Window.{Window}
-use Rattle.trip.specs.Relationships.{lastCode, named}
+use Rattle.trip.specs.declared.Asking.{Asking}
+use Rattle.trip.specs.Relationships.{lastCode}
 use Rattle.layout.specs.declared.Half.the-variants.{Originals, Replicas}
 use Rattle.layout.specs.declared.Refusal.{Refusal}
 use Rattle.layout.specs.declared.Refusal.the-variants.{RulerOutOfBounds, TableSize, DirectoryLength, OffRuler, Backward, IdTaken, NoRoom, NotAnIndex, NoRelationship, NoSuchId, TooManyPartitions, NoSuchSlot}
@@ -119,6 +120,21 @@ timeTests s start end d rest =
     refuse (offRuler s start end) OffRuler d
     (refuse (backward start end) Backward d rest)
 
+-- times that pass both: the test, and what is known where it passes
+unfoldable pub onRuler : Scale → (start end : Time) → Bool
+onRuler s start end = isAccepted (timeTests s start end 0 Accepted)
+
+pub record OnRuler (s : Scale) (start end : Time) : Type 0 where
+  pub starts : T (s .has start)
+  pub ends : T (s .has end)
+  pub ordered : start .0 ≤ end .0
+
+abbrev pub fits : Scale → Trip → Bool
+fits s t = onRuler s (t .start) (t .end)
+
+abbrev pub Fits : Scale → Trip → Type 0
+Fits s t = OnRuler s (t .start) (t .end)
+
 -- "within it 4, 5, 6, 11": one row, beside the trips that are there
 unfoldable pub rowTests : Scale → (there : List Trip) → Trip → (detail : ℕ) → Outcome → Outcome
 rowTests s there t d rest =
@@ -188,16 +204,16 @@ removeOutcome s x i = indexTests s x (refuse (not (hasId i (tableOf s x))) NoSuc
 unfoldable pub windowTests : Scale → Window → Outcome → Outcome
 windowTests s w rest = timeTests s (w .start) (w .end) 0 rest
 
+-- 9, 4, 5: a question as it is put
+unfoldable pub questionTests : Scale → Asking → Outcome → Outcome
+questionTests s q rest = refuse (noSuchCode (q .code)) NoRelationship 0 (windowTests s (q .window) rest)
+
 unfoldable pub roomTest : (matches room : ℕ) → Outcome
 roomTest matches room = refuse (exceeds matches room) NoRoom matches Accepted
 
 -- "Question: 1, 3, 8, 9, 4, 5, 7."
-unfoldable pub askOutcome : Scale → Index → (code : ℕ) → Window → (room : ℕ) → Outcome
-askOutcome s x code w room =
-    indexTests s x
-    (refuse (noSuchCode code) NoRelationship 0
-    (windowTests s w
-    (roomTest (length (answerTo (named code) w (tableOf s x))) room)))
+unfoldable pub askOutcome : Scale → Index → Asking → (room : ℕ) → Outcome
+askOutcome s x q room = indexTests s x (questionTests s q (roomTest (length (answerTo q (tableOf s x))) room))
 
 -- "Run: 1, 3, 8, 12."
 unfoldable pub runOutcome : Scale → Index → (L i subdivision : ℕ) → Outcome

@@ -7,8 +7,9 @@ use Prim.Native.Nat.{ℕ, zero, suc, _+_, _-_, _*_, _/_, _%_, _^_}
 use lib.Dec.{leb, ltb, eqb}
 use lib.ListN.{length, getD}
 use Rattle.lists.specs.Lists.{keep, sort, joined, upTo, padded}
-use Rattle.ruler.specs.Ruler.{Scale, timeAt, before, sameTime}
+use Rattle.ruler.specs.Ruler.{Scale, before, sameTime}
 use Rattle.trip.specs.declared.Trip.{Trip}
+use Rattle.trip.specs.Trips.{tripOf}
 use Rattle.layout.specs.declared.Half.{Half}
 use Rattle.layout.specs.declared.Half.the-variants.{Originals, Replicas}
 use Rattle.layout.specs.declared.Subdivision.{Subdivision}
@@ -24,11 +25,7 @@ tripWords t = t .id ∷ t .start .0 ∷ t .end .0 ∷ []
 
 -- the trip whose words stand at place k of a list of entries
 unfoldable pub tripAt : List ℕ → (k : ℕ) → Trip
-tripAt l k = record {
-  id = getD l (entryWords * k) 0;
-  start = timeAt (getD l (entryWords * k + 1) 0);
-  end = timeAt (getD l (entryWords * k + 2) 0);
-}
+tripAt l k = tripOf (getD l (entryWords * k) 0) (getD l (entryWords * k + 1) 0) (getD l (entryWords * k + 2) 0)
 
 -- the words of trips one after another, and the whole rows of a list of words
 unfoldable pub words : List Trip → List ℕ

@@ -20,11 +20,12 @@ use Rattle.layout.specs.declared.Half.{Half}
 use Rattle.layout.specs.declared.Half.the-variants.{Originals, Replicas}
 use Rattle.layout.specs.Stored.{holds, holdsTrip, isOriginal, isIn, subdivisionOf, isOf, belongs}
 use Rattle.layout.specs.Words.{order, slotTrips}
-use Rattle.layout.proofs.Partitions.{Fits, Once, holds-within, of-within}
+use Rattle.layout.proofs.Partitions.{Once, holds-within, of-within}
 use Rattle.layout.proofs.Reported.{reported, Reported, of-reported, shared-once}
 use Rattle.layout.proofs.RowOrder.{Distinct}
 use Rattle.layout.proofs.Sides.{ofOriginals, of-isOf, to-isOf, side, side-lt, side-slot, same-slot}
 use Rattle.layout.proofs.Apart.{apart-append, apart-joined}
+use Rattle.layout.specs.Refusals.{Fits}
 use Rattle.plan.specs.declared.range.Kind.{Kind}
 use Rattle.plan.specs.declared.range.Kind.the-variants.{Starting, Ending, Crossing}
 use Rattle.plan.specs.declared.range.Plan.{Plan}

@@ -9,9 +9,8 @@ use crate::scan;
 use crate::scan::Ends;
 use crate::scan::Fields;
 use layout::Outcome;
-use ruler::Time;
+use trip::Asking;
 use trip::Trip;
-use trip::Window;
 use view::LEVELS;
 use view::SUBDIVISIONS;
 ghost use Prim.Native.Nat.{_≤_};
@@ -53,11 +52,7 @@ fn check_said(n: Fields, directory: &[u32], originals: &[u32], replicas: &[u32])
 
 fn add_said(n: Fields, directory: &mut [u32], originals: &mut [u32], replicas: &mut [u32]) -> Said {
     let ruler = n.ruler;
-    let t = Trip {
-        id: n.first,
-        start: Time::at(n.second),
-        end: Time::at(n.third),
-    };
+    let t = Trip::of(n.first, n.second, n.third);
     counted(edit::add(ruler, directory, originals, replicas, t), 0)
 }
 
@@ -82,19 +77,8 @@ fn ask_said<'a>(
     answers: &mut [u32],
 ) -> Said {
     let ruler = n.ruler;
-    let window = Window {
-        start: Time::at(n.second),
-        end: Time::at(n.third),
-    };
-    let answered = ask::ask(
-        ruler,
-        directory,
-        originals,
-        replicas,
-        n.first,
-        window,
-        answers,
-    );
+    let asking = Asking::of(n.first, n.second, n.third);
+    let answered = ask::ask(ruler, directory, originals, replicas, asking, answers);
     let outcome = answered.outcome;
     counted(outcome, answered.count)
 }

@@ -1,19 +1,20 @@
 -- What the laws of the index ask of a scale, and that the scale of numbers in bounds has it.
-use mathlib.Core.Path.{_≡_, ap, _∙_}
+use mathlib.Core.Path.{_≡_, refl, ap, _∙_}
 use mathlib.Core.Bool.{_&&_}
 use Prim.Native.Nat.{ℕ, _+_, _-_, _/_, _^_, _≤_, _<_}
 use native.Mathlib.Omega.{arith}
 use lib.Dec.{T, leb, leb→le, ltb→lt}
-use lib.Pow.{shr-shr, shr-mono, shr-lt}
+use lib.Pow.{pow-mono, shr-shr, shr-mono, shr-lt}
 use Rattle.lists.proofs.Tests.{of-and}
 use Rattle.ruler.specs.declared.Time.{Time}
 use Rattle.ruler.specs.declared.Numbers.{Numbers}
-use Rattle.ruler.specs.Ruler.{Scale, widest, deepest, inBounds, scaleOf, cellUp}
+use Rattle.ruler.specs.Ruler.{Scale, widest, deepest, inBounds, scaleOf, cellUp, bottomOf}
 
--- the map from times to level-m cells never falls, and a time of the ruler has one of the 2 ^ m cells
+-- the map from times to level-m cells never falls, a time of the ruler has one of the 2 ^ m cells, and it is far from the end of a word
 pub record Fair (s : Scale) : Type 0 where
   pub never-falls : (t u : Time) → t .0 ≤ u .0 → s .cell t ≤ s .cell u
   pub one-of : (t : Time) → T (s .has t) → s .cell t < 2 ^ s .m
+  pub not-far : (t : Time) → T (s .has t) → t .0 < 2 ^ widest
 
 -- the four tests of a ruler's numbers, as facts
 pub record Bounds (n : Numbers) : Type 0 where
@@ -36,11 +37,25 @@ bounds n t =
           (a .1);
     }
 
+-- what the scale of some numbers says of them
+pub scale-good : (n : Numbers) → scaleOf n .good ≡ inBounds n
+unfolding scaleOf
+scale-good n = refl
+
+pub scale-bottom : (n : Numbers) → scaleOf n .m ≡ bottomOf n
+unfolding scaleOf
+scale-bottom n = refl
+
+pub scale-m : (n : Numbers) → T (inBounds n) → scaleOf n .m ≤ deepest
+unfolding scaleOf
+scale-m n t = bounds n t .deep
+
 pub fair : (n : Numbers) → T (inBounds n) → Fair (scaleOf n)
 unfolding scaleOf
 fair n t = let h = bounds n t .fits in record {
   never-falls = λ t u l. shr-mono (n .w - n .m) l;
   one-of = λ t b. shr-lt (n .m) (n .w - n .m) (let e : n .m + (n .w - n .m) ≡ n .w = omega arith in rw e (ltb→lt (t .0) (2 ^ n .w) b));
+  not-far = λ u b. omega (arith, ltb→lt (u .0) (2 ^ n .w) b, pow-mono (bounds n t .wide));
 }
 
 -- "The cell of time t at level L is the whole part of t / 2^(w − L)."

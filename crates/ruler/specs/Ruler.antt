@@ -40,6 +40,13 @@ mostTrips = 4096
 unfoldable pub inBounds : Numbers → Bool
 inBounds n = leb 1 (n .w) && leb (n .w) widest && leb (n .m) deepest && leb (n .m) (n .w)
 
+-- the numbers that a caller names a ruler by, and the deepest level that they name
+abbrev pub numbersOf : (w m : ℕ) → Numbers
+numbersOf w m = record { w = w; m = m }
+
+abbrev pub bottomOf : Numbers → ℕ
+bottomOf n = n .m
+
 -- All that the index knows of a ruler: whether its numbers are in bounds, the number m of its deepest level, which raw times it has,
 -- and the level-m cell of a time. Only this file says how a ruler makes its scale.
 pub record Scale : Type 0 where
@@ -53,7 +60,7 @@ pub record Scale : Type 0 where
 unfoldable pub scaleOf : Numbers → Scale
 scaleOf n = record {
   good = inBounds n;
-  m = n .m;
+  m = bottomOf n;
   has = λ t. ltb (t .0) (2 ^ n .w);
   cell = λ t. t .0 / 2 ^ (n .w - n .m);
 }

@@ -2,7 +2,7 @@
 ghost use mathlib.Core.Path.{_≡_};
 ghost use mathlib.Core.Bool.{true};
 ghost use Prim.Native.Nat.{_+_, _^_, _<_, _≤_};
-ghost use Rattle.ruler.specs.Ruler.{timeAt, before, sameTime, noLater, nextTime, widest, deepest, mostTrips, inBounds, judge, scale};
+ghost use Rattle.ruler.specs.Ruler.{timeAt, before, sameTime, noLater, nextTime, widest, deepest, mostTrips, inBounds, judge, scale, bottomOf};
 ghost use Rattle.ruler.specs.Ruler.{cellOf, cellAt, bottomCell, sameCell, noLaterCell, nextCell, cellAbove, cellIn, parity, firstOfTwo};
 ghost use Rattle.ruler.specs.Ruler.{firstIn, lastIn, begins, cellRank};
 
@@ -160,6 +160,15 @@ pub struct Numbers {
     pub m: u32,
 }
 
+impl Numbers {
+    // The number of the deepest level, whether or not it is in bounds.
+    pub fn bottom(self) -> u32
+        ensures { λ r. ⌜ r ≡ bottomOf self ⌝ }
+    {
+        self.m
+    }
+}
+
 // A ruler whose numbers were in bounds when it was made.
 pub struct Ruler {
     numbers: Numbers,
@@ -192,7 +201,7 @@ impl Ruler {
     pub fn bottom(self) -> u32
         ensures { λ r. ⌜ r ≡ scale self .m ⌝ }
     {
-        self.numbers.m
+        self.numbers.bottom()
     }
 
     // Whether a raw time is on the ruler.

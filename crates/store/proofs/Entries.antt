@@ -1,9 +1,9 @@
 -- Entries in a list of words: what a trip's stores leave, in words and in rows, and the ids of rows.
 use mathlib.Core.Path.{_≡_, sym, ap, ap₂, _∙_}
-use mathlib.Core.List.{List, [], _∷_, _++_, append-assoc}
+use mathlib.Core.List.{List, [], _∷_, _++_, append-assoc, append-nil}
 use Prim.Native.Nat.{ℕ, suc, _+_, _*_, _/_, _<_}
 use native.Mathlib.Omega.{arith}
-use lib.ListN.{length, take, drop, getD, set, length-append}
+use lib.ListN.{length, take, drop, getD, set, length-append, drop-of-length-le}
 use lib.Seq.{sets-eq, take-at, drop-at, take-append-add, drop-append-add, set-split}
 use Rattle.lists.specs.Lists.{upTo}
 use Rattle.lists.proofs.Upto.{map-upTo}
@@ -22,6 +22,13 @@ put-words l k t h =
     let one : a + 1 ≡ suc a = omega arith in
     let two : a + 2 ≡ suc (suc a) = omega arith in
     rw (one, two) (sets-eq (t .id ∷ t .start .0 ∷ t .end .0 ∷ []) l a (omega arith) ∙ append-assoc (take a l) _ _)
+
+-- a list of one entry
+pub put-whole : (t : Trip) (l : List ℕ) → length l ≡ entryWords → put 0 t l ≡ tripWords t
+unfolding put
+put-whole t l e =
+    let none : drop entryWords l ≡ [] = drop-of-length-le l {i = entryWords} (omega arith) in
+    rw none (append-nil (tripWords t))
 
 -- a trip put over the words m of the entry after those of p
 pub put-seam : (p m q : List ℕ) (k : ℕ) (t : Trip) → length p ≡ entryWords * k → length m ≡ entryWords

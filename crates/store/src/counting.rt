@@ -8,8 +8,7 @@ ghost use mathlib.Core.Bool.{true};
 ghost use Prim.Native.Nat.{_+_, _-_, _*_, _/_, _≤_};
 ghost use Rattle.ruler.specs.Ruler.{deepest, inBounds, scale};
 ghost use Rattle.layout.specs.Words.{directoryLength};
-ghost use Rattle.layout.specs.Refusals.{partitionsHolding};
-ghost use Rattle.layout.proofs.Partitions.{Fits};
+ghost use Rattle.layout.specs.Refusals.{partitionsHolding, Fits};
 
 // Of the partitions of a level that lie in a trip's cells, from one on, up to another that is not of them, those whose parent does not.
 fn held_here(from: Cell, to: Cell) -> u32

@@ -1,7 +1,8 @@
-// Trips, windows, the fourteen relationships and the question.
+// Trips, windows, the fourteen relationships and the question. Here alone is known of which words each of them is made.
 use ruler::Time;
 ghost use mathlib.Core.Path.{_≡_};
 ghost use Rattle.trip.specs.Relationships.{named, related};
+ghost use Rattle.trip.specs.Trips.{tripOf, sameTrip, windowOf, askingOf};
 
 // A trip's running time, closed at both ends.
 pub struct Trip {
@@ -10,9 +11,60 @@ pub struct Trip {
     pub end: Time,
 }
 
+impl Trip {
+    // A trip made of its words.
+    pub fn of(id: u32, start: u32, end: u32) -> Trip
+        ensures { λ r. ⌜ r ≡ tripOf id start end ⌝ }
+    {
+        Trip {
+            id,
+            start: Time::at(start),
+            end: Time::at(end),
+        }
+    }
+
+    // Whether another trip has the same words.
+    pub fn same(self, other: Trip) -> bool
+        ensures { λ r. ⌜ r ≡ sameTrip self other ⌝ }
+    {
+        let start = self.start;
+        let end = self.end;
+        (self.id == other.id) & (start.same(other.start) & end.same(other.end))
+    }
+}
+
 pub struct Window {
     pub start: Time,
     pub end: Time,
+}
+
+impl Window {
+    pub fn of(start: u32, end: u32) -> Window
+        ensures { λ r. ⌜ r ≡ windowOf start end ⌝ }
+    {
+        Window {
+            start: Time::at(start),
+            end: Time::at(end),
+        }
+    }
+}
+
+// A question as it is put, not yet judged: its code may name nothing, and its window may be off the ruler.
+pub struct Asking {
+    pub code: u32,
+    pub window: Window,
+}
+
+impl Asking {
+    // A question made of its words.
+    pub fn of(code: u32, start: u32, end: u32) -> Asking
+        ensures { λ r. ⌜ r ≡ askingOf code start end ⌝ }
+    {
+        Asking {
+            code,
+            window: Window::of(start, end),
+        }
+    }
 }
 
 pub enum Relationship {
@@ -32,6 +84,7 @@ pub enum Relationship {
     GOverlaps,
 }
 
+// A question that was judged: its code names a relationship.
 pub struct Question {
     pub window: Window,
     pub relationship: Relationship,

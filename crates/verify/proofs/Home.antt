@@ -5,52 +5,23 @@ use mathlib.Core.List.{List, List·Memᴰ as Mem}
 use Prim.Native.Nat.{ℕ, zero, suc, _+_, _-_, _*_, _/_, _%_, _^_, _≤_, _<_}
 use native.Mathlib.Nat.{sub-self}
 use native.Mathlib.Omega.{arith}
-use lib.Dec.{T, eqb, leb→le, le→leb, eqb→eq, eqb-refl}
-use Rattle.lists.proofs.Tests.{of-and, to-and, to-T}
+use lib.Dec.{T, eqb, eqb-refl}
+use Rattle.lists.proofs.Tests.{to-and, to-T}
 use Rattle.ruler.specs.declared.Ruler.{Ruler}
-use Rattle.ruler.specs.Ruler.{Scale, inBounds, scale, noLater, sameTime, timeAt, cellUp}
+use Rattle.ruler.specs.Ruler.{Scale, inBounds, scale, cellUp}
 use Rattle.ruler.proofs.Fair.{Fair}
 use Rattle.ruler.proofs.Levels.{up-half, up-bottom, up-lt}
 use Rattle.trip.specs.declared.Trip.{Trip}
 use Rattle.layout.specs.declared.Half.the-variants.{Originals}
 use Rattle.layout.specs.Stored.{within, holds, holdsTrip, isOriginal, isIn, isOf, subdivisionOf, belongs}
 use Rattle.layout.specs.Words.{partitions, partitionNumber, slotNumber, slot}
-use Rattle.layout.proofs.Partitions.{Fits, to-within}
+use Rattle.layout.proofs.Partitions.{to-within}
 use Rattle.layout.proofs.RulerCells.{fair-ruler}
 use Rattle.layout.proofs.Numbers.{level-number, place-number, number-lt}
 use Rattle.layout.proofs.Slots.{to-slot}
-use Rattle.verify.specs.Local.{fitsTest, homeLevel, homeAt, home, sameTrip}
-
--- ---- one trip
-
-pub of-fits : (s : Scale) (t : Trip) → T (fitsTest s t) → Fits s t
-unfolding fitsTest
-of-fits s t q =
-    let a = of-and (s .has (t .start)) (s .has (t .end) && noLater (t .start) (t .end)) q in
-    let b = of-and (s .has (t .end)) (noLater (t .start) (t .end)) (a .1) in
-    record { starts = a .0; ends = b .0; ordered = leb→le (t .start .0) (t .end .0) (b .1) }
-
-pub to-fits : (s : Scale) (t : Trip) → Fits s t → T (fitsTest s t)
-unfolding fitsTest
-to-fits s t f =
-    to-and (s .has (t .start)) _ (f .starts)
-    (to-and (s .has (t .end)) (noLater (t .start) (t .end)) (f .ends) (le→leb (t .start .0) (t .end .0) (f .ordered)))
-
-pub of-same : (t u : Trip) → T (sameTrip t u) → t ≡ u
-unfolding sameTrip
-of-same t u q =
-    let a = of-and (eqb (t .id) (u .id)) (sameTime (t .start) (u .start) && sameTime (t .end) (u .end)) q in
-    let b = of-and (sameTime (t .start) (u .start)) (sameTime (t .end) (u .end)) (a .1) in
-    let x = eqb→eq (t .id) (u .id) (a .0) in
-    let y = eqb→eq (t .start .0) (u .start .0) (b .0) in
-    let z = eqb→eq (t .end .0) (u .end .0) (b .1) in
-    λ i. record { id = x i; start = timeAt (y i); end = timeAt (z i) }
-
-pub same-refl : (t : Trip) → T (sameTrip t t)
-unfolding sameTrip
-same-refl t =
-    to-and (eqb (t .id) (t .id)) _ (eqb-refl (t .id))
-    (to-and (sameTime (t .start) (t .start)) (sameTime (t .end) (t .end)) (eqb-refl (t .start .0)) (eqb-refl (t .end .0)))
+use Rattle.layout.specs.Refusals.{Fits, fits}
+use Rattle.layout.proofs.Chains.{of-onRuler}
+use Rattle.verify.specs.Local.{homeLevel, homeAt, home}
 
 -- ---- the level of the original entry, from level L up
 
@@ -146,9 +117,9 @@ module _ (s : Scale) (fair : Fair s) (t : Trip) (f : Fits s t) where
 
 -- ---- the same of a ruler, for the code
 
-module _ (r : Ruler) (t : Trip) (good : inBounds (r .numbers) ≡ true) (fit : fitsTest (scale r) t ≡ true) where
+module _ (r : Ruler) (t : Trip) (good : inBounds (r .numbers) ≡ true) (fit : fits (scale r) t ≡ true) where
   pub trip-fits : Fits (scale r) t
-  trip-fits = of-fits (scale r) t (to-T fit)
+  trip-fits = of-onRuler (scale r) (t .start) (t .end) (to-T fit)
 
   pub level-deep : homeLevel (scale r .m) (scale r .cell (t .start)) (scale r .cell (t .end)) (scale r .m) ≤ scale r .m
   level-deep = home-deep (scale r) (fair-ruler r good) t trip-fits

@@ -12,6 +12,8 @@ use Rattle.lists.proofs.Sorting.{Sorted}
 use Rattle.lists.proofs.Halving.{at-mem, in-order, sorted-of}
 use Rattle.ruler.specs.Ruler.{Scale}
 use Rattle.trip.specs.declared.Trip.{Trip}
+use Rattle.trip.specs.Trips.{sameTrip}
+use Rattle.trip.proofs.Alike.{of-same, same-refl}
 use Rattle.layout.specs.declared.Half.the-variants.{Originals}
 use Rattle.layout.specs.declared.Subdivision.the-variants.{OIn}
 use Rattle.layout.specs.Stored.{subdivisionOf}
@@ -21,9 +23,8 @@ use Rattle.layout.proofs.RowOrder.{slot-order}
 use Rattle.store.specs.Ordered.{preceding, noTrip}
 use Rattle.store.proofs.Found.{found-place}
 use Rattle.verify.specs.Passing.{some}
-use Rattle.verify.specs.Local.{sameTrip, slotOk, slotsOk, slotAt}
+use Rattle.verify.specs.Local.{slotOk, slotsOk, slotAt}
 use Rattle.verify.proofs.Passing.{bool-ext, of-below, of-some, to-some, row-sorted}
-use Rattle.verify.proofs.Home.{of-same, same-refl}
 
 -- ---- a trip at its place k in a part that is in order
 

@@ -12,25 +12,28 @@ use Rattle.lists.proofs.Tests.{of-and, to-and, to-T}
 use Rattle.lists.proofs.Members.{In, of-joined, to-joined}
 use Rattle.lists.proofs.Joined.{joined-ext}
 use Rattle.ruler.specs.declared.Ruler.{Ruler}
-use Rattle.ruler.specs.Ruler.{Scale, mostTrips, deepest, inBounds, scale, scaleOf}
-use Rattle.ruler.proofs.Fair.{Fair}
+use Rattle.ruler.specs.Ruler.{Scale, mostTrips, deepest, inBounds, scale}
+use Rattle.ruler.proofs.Fair.{Fair, scale-good}
 use Rattle.trip.specs.declared.Trip.{Trip}
+use Rattle.trip.specs.Trips.{sameTrip}
+use Rattle.trip.proofs.Alike.{of-same, same-refl}
 use Rattle.layout.specs.declared.Half.{Half}
 use Rattle.layout.specs.declared.Half.the-variants.{Originals, Replicas}
 use Rattle.layout.specs.Words.{order, partitions, halfLength, directoryLength, subdivisionAt, Index}
-use Rattle.layout.specs.Refusals.{partitionsHolding, isIndex}
+use Rattle.layout.specs.Refusals.{partitionsHolding, isIndex, fits}
 use Rattle.layout.specs.Calls.{index}
 use Rattle.layout.proofs.RulerCells.{fair-ruler, deep-ruler}
 use Rattle.layout.proofs.RowOrder.{slot-order}
 use Rattle.layout.proofs.Indexes.{of-isIndex, to-isIndex}
 use Rattle.layout.proofs.Walk.{inSlot}
 use Rattle.layout.proofs.Local.{slotsOf, Standing, Proper, Laid, originalsHalf, replicasHalf, all-fit, originals-are, local-index, index-local}
+use Rattle.layout.proofs.Chains.{of-onRuler, to-onRuler}
 use Rattle.store.specs.Ids.{idsDiffer}
 use Rattle.store.proofs.Differing.{of-idsDiffer, to-idsDiffer}
 use Rattle.verify.specs.Passing.{each, some}
-use Rattle.verify.specs.Local.{total, halfOk, slotAt, tripsOf, fitsTest, standsAt, slotOk, slotsOk, home, sameTrip, isKnown, countsTo, halvesOk, allSlotsOk, tripsOk, locally}
+use Rattle.verify.specs.Local.{total, halfOk, slotAt, tripsOf, standsAt, slotOk, slotsOk, home, isKnown, countsTo, halvesOk, allSlotsOk, tripsOk, locally}
 use Rattle.verify.proofs.Passing.{bool-ext, of-below, to-below, of-each, to-each, of-some, to-some, row-passes, row-sorted, to-row}
-use Rattle.verify.proofs.Home.{of-fits, to-fits, of-same, same-refl, home-lt, home-slot}
+use Rattle.verify.proofs.Home.{home-lt, home-slot}
 use Rattle.verify.proofs.Cut.{of-half, to-half, total-at, count-cut, cut-laid, trips-cut, laid-length, laid-cut, laid-at}
 
 -- ---- one half
@@ -55,8 +58,8 @@ module _ (s : Scale) (h : Half) (dir arena : List ℕ) (f : ℕ → List Trip) (
   unfolding slotsOk slotOk standsAt
   to-slotsOk c =
       let n : length dir - 1 ≡ slotsOf s = omega (arith, laid-length dir arena f _ w) in
-      let stands : (k : ℕ) → k < slotsOf s → (u : Trip) → Mem u (f k) → T (fitsTest s u && inSlot s h k u) = λ k l u m.
-      to-and (fitsTest s u) (inSlot s h k u) (to-fits s u (c .fits k l u m)) (c .right k l u m)
+      let stands : (k : ℕ) → k < slotsOf s → (u : Trip) → Mem u (f k) → T (fits s u && inSlot s h k u) = λ k l u m.
+      to-and (fits s u) (inSlot s h k u) (to-onRuler s (u .start) (u .end) (c .fits k l u m)) (c .right k l u m)
       in
       rw n (to-below (λ k. slotOk s h k (slotAt dir arena k)) (slotsOf s) (λ k l.
       rw (laid-at dir arena f (slotsOf s) w k l) (to-row _ (order (subdivisionAt h k)) (stands k l) (c .sorted k l))))
@@ -68,11 +71,11 @@ of-slotsOk s h dir arena e t =
     let f = slotAt dir arena in
     let n : length dir - 1 ≡ slotsOf s = omega arith in
     let row : (k : ℕ) → k < slotsOf s → T (slotOk s h k (f k)) = λ k l. of-below (λ k. slotOk s h k (f k)) (slotsOf s) (rw n at t) k l in
-    let both : (k : ℕ) → k < slotsOf s → (u : Trip) → Mem u (f k) → T (fitsTest s u) × T (inSlot s h k u) = λ k l u m.
-    of-and (fitsTest s u) (inSlot s h k u) (row-passes _ (slot-order (subdivisionAt h k)) (f k) (row k l) u m)
+    let both : (k : ℕ) → k < slotsOf s → (u : Trip) → Mem u (f k) → T (fits s u) × T (inSlot s h k u) = λ k l u m.
+    of-and (fits s u) (inSlot s h k u) (row-passes _ (slot-order (subdivisionAt h k)) (f k) (row k l) u m)
     in
     record {
-      fits = λ k l u m. of-fits s u (both k l u m .0);
+      fits = λ k l u m. of-onRuler s (u .start) (u .end) (both k l u m .0);
       right = λ k l u m. both k l u m .1;
       sorted = λ k l. row-sorted _ (slot-order (subdivisionAt h k)) (f k) (row k l);
     }
@@ -97,9 +100,9 @@ module _ (s : Scale) (fair : Fair s) (o orig r repl : List ℕ) where
       let there : Mem t (slotAt o orig (home s t)) =
       rw (laid-at o orig f n a (home s t) lt, originals-are s fair f g c (home s t) lt) (home-slot s fair t fit ts (c .known (v .0) (v .1) t (v .2)))
       in
-      to-and (fitsTest s t) _ (to-fits s t fit) (to-some (sameTrip t) (slotAt o orig (home s t)) t there (same-refl t))
+      to-and (fits s t) _ (to-onRuler s (t .start) (t .end) fit) (to-some (sameTrip t) (slotAt o orig (home s t)) t there (same-refl t))
       in
-      let all-fits : T (each (fitsTest s) ts) = to-each (fitsTest s) ts (λ t m. to-fits s t (all-fit s fair f g c t m)) in
+      let all-fits : T (each (fits s) ts) = to-each (fits s) ts (λ t m. to-onRuler s (t .start) (t .end) (all-fit s fair f g c t m)) in
       let sum = sumOver (partitionsHolding s) ts in
       let counted : T (eqb (length ts + length (joined g n)) sum) = rw (c .total) (eqb-refl sum) in
       to-and (halfOk o orig && halfOk r repl) _ (to-and (halfOk o orig) _ (half-passes s Originals o orig f a) (half-passes s Replicas r repl g b))
@@ -108,7 +111,7 @@ module _ (s : Scale) (fair : Fair s) (o orig r repl : List ℕ) where
       (to-and (slotsOk s Originals o orig) _ (to-slotsOk s Originals o orig f a (c .originals)) (to-slotsOk s Replicas r repl g b (c .replicas))))
       (to-and (idsDiffer (tripsOf o orig)) _ (rw to (to-idsDiffer ts (c .distinct)))
       (to-and (each (isKnown s o orig) (tripsOf r repl)) _ (rw tr (to-each (isKnown s o orig) (joined g n) known))
-      (rw (to, co, cr) (to-and (each (fitsTest s) ts) _ all-fits counted)))))
+      (rw (to, co, cr) (to-and (each (fits s) ts) _ all-fits counted)))))
 
   -- words that pass hold the lists that they are cut into, and these pass
   module _ (o-long : length o ≡ slotsOf s + 1) (r-long : length r ≡ slotsOf s + 1) where
@@ -130,7 +133,7 @@ module _ (s : Scale) (fair : Fair s) (o orig r repl : List ℕ) where
         let t4 = of-and (slotsOk s Originals o orig) _ (t3 .1) in
         let t5 = of-and (idsDiffer (tripsOf o orig)) _ (t2 .1) in
         let t6 = of-and (each (isKnown s o orig) (tripsOf r repl)) _ (t5 .1) in
-        let t7 = of-and (each (fitsTest s) (tripsOf o orig)) (eqb (total o + total r) (sumOver (partitionsHolding s) (tripsOf o orig))) (t6 .1) in
+        let t7 = of-and (each (fits s) (tripsOf o orig)) (eqb (total o + total r) (sumOver (partitionsHolding s) (tripsOf o orig))) (t6 .1) in
         let parts = laid-parts (t1 .0) in
         let to = trips-are s Originals o orig (slotAt o orig) (parts .0) in
         let tr = trips-are s Replicas r repl (slotAt r repl) (parts .1) in
@@ -138,9 +141,9 @@ module _ (s : Scale) (fair : Fair s) (o orig r repl : List ℕ) where
         let cr = total-is s Replicas r repl (slotAt r repl) (parts .1) in
         let known : (k : ℕ) → k < n → In (slotAt r repl k) (joined (slotAt o orig) n) = λ k h u m.
         let a = of-each (isKnown s o orig) (tripsOf r repl) (t6 .0) u (rw tr (to-joined (slotAt r repl) n k u h m)) in
-        let b = of-and (fitsTest s u) (some (sameTrip u) (slotAt o orig (home s u))) a in
+        let b = of-and (fits s u) (some (sameTrip u) (slotAt o orig (home s u))) a in
         let v = of-some (sameTrip u) (slotAt o orig (home s u)) (b .1) in
-        rw (of-same u (v .0) (v .2)) (to-joined (slotAt o orig) n (home s u) (v .0) (home-lt s fair u (of-fits s u (b .0))) (v .1))
+        rw (of-same u (v .0) (v .2)) (to-joined (slotAt o orig) n (home s u) (v .0) (home-lt s fair u (of-onRuler s (u .start) (u .end) (b .0))) (v .1))
         in (
           parts .0,
           parts .1,
@@ -182,9 +185,9 @@ module _ (s : Scale) (fair : Fair s) (x : Index) (good : T (s .good)) (small : s
 of-ruler : (r : Ruler) (d orig repl : List ℕ) → inBounds (r .numbers) ≡ true → length d ≡ directoryLength (scale r .m)
     → isIndex (scale r) (index d orig repl)
     ≡ locally (scale r) (take (2 * partitions (scale r .m) + 1) d) orig (drop (2 * partitions (scale r .m) + 1) d) repl
-unfolding originalsHalf replicasHalf halfLength scaleOf
+unfolding originalsHalf replicasHalf halfLength
 of-ruler r d orig repl good long =
-    locally-index (scale r) (fair-ruler r good) (index d orig repl) (to-T good) (deep-ruler r good) long
+    locally-index (scale r) (fair-ruler r good) (index d orig repl) (to-T (scale-good (r .numbers) ∙ good)) (deep-ruler r good) long
 
 -- and of the two parts of a directory, as the code cuts it
 pub two-parts : (r : Ruler) (d orig repl : List ℕ) → inBounds (r .numbers) ≡ true → length d ≡ directoryLength (scale r .m)

@@ -7,6 +7,7 @@ use Rattle.lists.proofs.Tests.{of-T}
 use Rattle.ruler.specs.declared.Numbers.{Numbers}
 use Rattle.ruler.specs.declared.Ruler.{Ruler}
 use Rattle.ruler.specs.Ruler.{inBounds, scaleOf, scale}
+use Rattle.ruler.proofs.Fair.{scale-good}
 use Rattle.layout.specs.declared.Refusal.{Refusal}
 use Rattle.layout.specs.declared.Outcome.{Outcome}
 use Rattle.layout.specs.declared.Outcome.the-variants.{Accepted, Refused}
@@ -32,12 +33,11 @@ module _ (n : Numbers) (x : Index) where
   opened-as e = ap (openedAs n) e
 
   known : (r : Ruler) → r .numbers ≡ n → checkOutcome (scaleOf n) x ≡ Accepted → Open n x r
-  unfolding scaleOf
   known r e q =
       let w = checked (scaleOf n) x q in
       record {
         numbers = e;
-        good = rw e (of-T (inBounds n) (w .table .good));
+        good = rw e (sym (scale-good n) ∙ of-T (scaleOf n .good) (w .table .good));
         passes = rw e q;
         is-index = rw e (of-T (isIndex (scaleOf n) x) (to-isIndex (scaleOf n) x w));
       }

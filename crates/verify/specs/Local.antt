@@ -5,14 +5,15 @@ use Prim.Native.Nat.{ℕ, zero, suc, _+_, _-_, _*_, _/_, _%_, _≤_, _<_}
 use lib.Dec.{leb, eqb}
 use lib.ListN.{length, getD, take, drop}
 use Rattle.lists.specs.Lists.{sumOver}
-use Rattle.ruler.specs.Ruler.{Scale, mostTrips, sameTime, noLater, cellUp}
+use Rattle.ruler.specs.Ruler.{Scale, mostTrips, cellUp}
 use Rattle.trip.specs.declared.Trip.{Trip}
+use Rattle.trip.specs.Trips.{sameTrip}
 use Rattle.layout.specs.declared.Half.{Half}
 use Rattle.layout.specs.declared.Half.the-variants.{Originals, Replicas}
 use Rattle.layout.specs.declared.Subdivision.{Subdivision}
 use Rattle.layout.specs.Stored.{within, isIn, belongs, subdivisionOf}
 use Rattle.layout.specs.Words.{entryWords, rows, order, levelOf, placeOf, slotNumber}
-use Rattle.layout.specs.Refusals.{partitionsHolding}
+use Rattle.layout.specs.Refusals.{partitionsHolding, fits}
 use Rattle.store.specs.Ids.{idsDiffer}
 use Rattle.verify.specs.Passing.{below, each, some, inRow, rising, blank}
 
@@ -48,13 +49,9 @@ tripsOf dir arena = rows (take (entryWords * total dir) arena)
 
 -- ---- the entries of a slot
 
--- the trip passes tests 4 and 5
-unfoldable pub fitsTest : Scale → Trip → Bool
-fitsTest s t = s .has (t .start) && (s .has (t .end) && noLater (t .start) (t .end))
-
 -- it may stand in this subdivision of partition i of level L
 unfoldable pub standsAt : Scale → Subdivision → (L i : ℕ) → Trip → Bool
-standsAt s d L i t = fitsTest s t && belongs s d L i t
+standsAt s d L i t = fits s t && belongs s d L i t
 
 -- the trips of the half's slot k stand there, in their order
 unfoldable pub slotOk : Scale → Half → (k : ℕ) → List Trip → Bool
@@ -79,18 +76,15 @@ homeAt s L t = let i = cellUp (s .m) L (s .cell (t .start)) in slotNumber L i (n
 unfoldable pub home : Scale → Trip → ℕ
 home s t = homeAt s (homeLevel (s .m) (s .cell (t .start)) (s .cell (t .end)) (s .m)) t
 
-unfoldable pub sameTrip : Trip → Trip → Bool
-sameTrip t u = eqb (t .id) (u .id) && (sameTime (t .start) (u .start) && sameTime (t .end) (u .end))
-
 -- the original of a replica stands in its slot
 unfoldable pub isKnown : Scale → (directory originals : List ℕ) → Trip → Bool
-isKnown s dir arena t = fitsTest s t && some (sameTrip t) (slotAt dir arena (home s t))
+isKnown s dir arena t = fits s t && some (sameTrip t) (slotAt dir arena (home s t))
 
 -- ---- all
 
 -- n is the number of partitions that hold the trips
 unfoldable pub countsTo : Scale → (n : ℕ) → List Trip → Bool
-countsTo s n ts = each (fitsTest s) ts && eqb n (sumOver (partitionsHolding s) ts)
+countsTo s n ts = each (fits s) ts && eqb n (sumOver (partitionsHolding s) ts)
 
 -- the tests over the words of both halves, over their slots, and over all trips; o and r are the halves of the directory
 unfoldable pub halvesOk : (o originals r replicas : List ℕ) → Bool

@@ -19,9 +19,11 @@ ghost use Rattle.ruler.specs.Ruler.{deepest, inBounds, scale};
 ghost use Rattle.layout.specs.declared.Half.the-variants.{Originals};
 ghost use Rattle.layout.specs.declared.Subdivision.the-variants.{OIn};
 ghost use Rattle.layout.specs.Words.{rows, order, halfLength};
+ghost use Rattle.layout.specs.Refusals.{fits};
 ghost use Rattle.store.specs.Ordered.{noTrip};
 ghost use Rattle.verify.specs.Passing.{each, some};
-ghost use Rattle.verify.specs.Local.{fitsTest, halfOk, SlotIn, slotAt, slotsOk, homeLevel, home, sameTrip, isKnown};
+ghost use Rattle.verify.specs.Local.{halfOk, SlotIn, slotAt, slotsOk, homeLevel, home, isKnown};
+ghost use Rattle.trip.specs.Trips.{sameTrip};
 
 // The level of the original entry of a trip with the level-m cells a..b.
 fn home_level(a: Cell, b: Cell) -> u32
@@ -42,7 +44,7 @@ fn home_level(a: Cell, b: Cell) -> u32
 // The slot of the original entry.
 fn home(ruler: Ruler, t: Trip) -> usize
     requires { ⌜ inBounds (ruler .numbers) ≡ true ⌝ }
-    requires { ⌜ fitsTest (scale ruler) t ≡ true ⌝ }
+    requires { ⌜ fits (scale ruler) t ≡ true ⌝ }
     ensures { λ r. ⌜ r ≡ home (scale ruler) t ⌝ }
 {
     let a = ruler.bottom_cell(t.start);
@@ -53,15 +55,6 @@ fn home(ruler: Ruler, t: Trip) -> usize
     slot_number(partition, !ends) as usize
 }
 
-// Whether two trips have the same words.
-fn same_trip(t: Trip, u: Trip) -> bool
-    ensures { λ r. ⌜ r ≡ sameTrip t u ⌝ }
-{
-    let start = t.start;
-    let end = t.end;
-    (t.id == u.id) & (start.same(u.start) & end.same(u.end))
-}
-
 // Whether the trip is one of a part that is in the order of originals: at its place there, or nowhere.
 fn has_trip(part: &[u32], t: Trip) -> bool
     requires { ⌜ InOrder (order OIn) noTrip (rows (now part)) (length (rows (now part))) ⌝ }
@@ -69,7 +62,7 @@ fn has_trip(part: &[u32], t: Trip) -> bool
 {
     let k = find_place(part, Subdivision::OIn, t);
     if k < part.len() / ENTRY_WORDS {
-        return same_trip(t, trip_at(part, k));
+        return t.same(trip_at(part, k));
     }
     false
 }

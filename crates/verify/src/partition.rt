@@ -1,5 +1,7 @@
 // One trip in one partition: whether it may stand there.
 use layout::Subdivision;
+use layout::is_accepted;
+use layout::time_outcome;
 use ruler::Cell;
 use ruler::Ruler;
 use ruler::power;
@@ -10,7 +12,8 @@ ghost use Prim.Native.Nat.{_^_, _<_, _≤_};
 ghost use Rattle.ruler.specs.Ruler.{deepest, inBounds, scale};
 ghost use Rattle.layout.specs.Stored.{within, holds, holdsTrip, isOf};
 ghost use Rattle.layout.specs.Words.{levelOf};
-ghost use Rattle.verify.specs.Local.{fitsTest, standsAt};
+ghost use Rattle.layout.specs.Refusals.{fits};
+ghost use Rattle.verify.specs.Local.{standsAt};
 
 // Whether all cells of a partition lie in a..b.
 pub fn lies_in(partition: Cell, a: Cell, b: Cell) -> bool
@@ -58,11 +61,9 @@ fn is_of(d: Subdivision, original: bool, ends: bool) -> bool
 // Whether the trip passes tests 4 and 5.
 pub fn fits(ruler: Ruler, t: Trip) -> bool
     requires { ⌜ inBounds (ruler .numbers) ≡ true ⌝ }
-    ensures { λ r. ⌜ r ≡ fitsTest (scale ruler) t ⌝ }
+    ensures { λ r. ⌜ r ≡ fits (scale ruler) t ⌝ }
 {
-    let start = t.start;
-    let end = t.end;
-    ruler.has(start) & (ruler.has(end) & start.no_later(end))
+    is_accepted(time_outcome(ruler, t.start, t.end, 0))
 }
 
 // Whether the trip may stand in this subdivision of a partition.

@@ -15,8 +15,8 @@ open-requires c κs = search needs
 enum-known-opened : tie.Need-enum-known-opened
 enum-known-opened c = search needs
 
-by-code-requires : tie.Need-by-code-requires
-by-code-requires c κs =
+answer-to-requires : tie.Need-answer-to-requires
+answer-to-requires c κs =
     let a = c .before .before .before .before .before .before .before .before .before .args in
     let x = index (a .directory .now) (a .originals .now) (a .replicas .now) in
     let is = c .before .before .opened .given in
@@ -38,15 +38,15 @@ returns c =
     let x = index (a .directory .now) (a .originals .now) (a .replicas .now) in
     let is = c .before .before .before .before .before .opened .given in
     let w = opened (a .numbers) x (is .0 .0) (c .before .before .before .before .before .before .before .«open» .ensures) (is .1) in
-    c .before .before .by-code .ensures ∙ past-check (scale (is .0 .0)) x (a .code) (a .window) _ (w .passes)
-    ∙ ap (λ (n : Numbers). askOf (scaleOf n) x (a .code) (a .window) (a .answers .now)) (w .numbers)
+    c .before .before .answer-to .ensures ∙ past-check (scale (is .0 .0)) x (a .asking) _ (w .passes)
+    ∙ ap (λ (n : Numbers). askOf (scaleOf n) x (a .asking) (a .answers .now)) (w .numbers)
 
 returns-2 : tie.Need-returns-2
 returns-2 c =
     let a = c .before .before .before .before .before .before .before .before .before .args in
     let x = index (a .directory .now) (a .originals .now) (a .replicas .now) in
     let told = shut (a .numbers) x _ (c .before .before .before .before .«open» .ensures) (c .before .before .opened2 .given .1) in
-    ends-unchecked (scaleOf (a .numbers)) x (a .code) (a .window) _ told (c .refused .ensures .0) (c .refused .ensures .1)
+    ends-unchecked (scaleOf (a .numbers)) x (a .asking) _ told (c .refused .ensures .0) (c .refused .ensures .1)
 
 pub ask-spec : {M : Type 1} → statement M
 ask-spec =
@@ -54,7 +54,7 @@ ask-spec =
     (tie.spec
     open-requires
     enum-known-opened
-    by-code-requires
+    answer-to-requires
     enum-known-opened-2
     refused-requires
     same-length

@@ -4,15 +4,13 @@ use mathlib.Core.List.{List}
 use Prim.Native.Nat.{ℕ, _-_, _*_}
 use lib.ListN.{length, getD}
 use Rattle.lists.specs.Lists.{ascending}
-use Rattle.lists.proofs.Tests.{to-T}
-use Rattle.ruler.specs.Ruler.{scaleOf}
-use Rattle.ruler.proofs.Fair.{bounds}
 use Rattle.trip.specs.declared.Trip.{Trip}
 use Rattle.layout.specs.Words.{partitions}
 use Rattle.layout.specs.Answers.{answer}
 use Rattle.layout.specs.Refusals.{roomTest}
 use Rattle.layout.specs.Calls.{index}
 use Rattle.layout.proofs.Chains.{of-room}
+use Rattle.layout.proofs.RulerCells.{deep-ruler}
 use Rattle.store.specs.Entries.{ids}
 use Rattle.ask.specs.Chain.{listedOf}
 use Rattle.walk.proofs.Written.{listed-length}
@@ -37,12 +35,11 @@ bottom-requires : tie.Need-bottom-requires
 bottom-requires c κs = search needs
 
 trips-of-requires : tie.Need-trips-of-requires
-unfolding scaleOf
 trips-of-requires c κs =
     let s = c .before .before .before .before .before .before .before .before in
     let g = s .args in
     let x = index (g .directory .now) (g .originals .now) (g .replicas .now) in
-    let deep = bounds (g .ruler .numbers) (to-T (s .pre .0)) .deep in
+    let deep = deep-ruler (g .ruler) (s .pre .0) in
     rw (c .bottom .ensures) (deep, trips-in (g .ruler) (s .pre .0) x (s .pre .1 .0) (g .question) (s .pre .1 .1))
 
 room-for-requires : tie.Need-room-for-requires

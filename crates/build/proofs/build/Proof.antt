@@ -3,6 +3,7 @@ use mathlib.Core.Path.{sym, ap, _∙_}
 use Rattle.ruler.specs.declared.Numbers.{Numbers}
 use Rattle.ruler.specs.Ruler.{scaleOf}
 use Rattle.ruler.proofs.Judging.{judged-good, judged-out}
+use Rattle.ruler.proofs.Fair.{scale-good}
 use Rattle.layout.specs.declared.Outcome.{Outcome}
 use Rattle.layout.specs.Calls.{index, after, buildOf}
 use Rattle.build.proofs.Outcomes.{says-1}
@@ -23,13 +24,12 @@ refused-requires : tie.Need-refused-requires
 refused-requires c κs = search needs
 
 returns : tie.Need-returns
-unfolding scaleOf
 returns c =
     let a = c .before .before .before .before .before .before .before .before .args in
     let words = index (a .directory .now) (a .originals .now) (a .replicas .now) in
     ap (λ (o : Outcome). after o words) (c .refused .ensures)
     ∙ says-1 (scaleOf (a .numbers)) (a .table .now) (a .directory .now) (a .originals .now) (a .replicas .now)
-    (judged-out _ (sym (c .before .before .before .new .ensures) ∙ c .before .enum-told .given .1))
+    (scale-good _ ∙ judged-out _ (sym (c .before .before .before .new .ensures) ∙ c .before .enum-told .given .1))
 
 build-on-requires : tie.Need-build-on-requires
 build-on-requires c κs =

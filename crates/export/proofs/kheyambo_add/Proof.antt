@@ -5,11 +5,8 @@ use borrow.Author.Needs.{needs}
 use Rattle.export.proofs.kheyambo_add.Statement.{statement}
 use Rattle.export.proofs.kheyambo_add.Tie as tie
 
-at-requires : tie.Need-at-requires
-at-requires c κs = search needs
-
-at-requires-2 : tie.Need-at-requires-2
-at-requires-2 c κs = search needs
+of-requires : tie.Need-of-requires
+of-requires c κs = search needs
 
 add-requires : tie.Need-add-requires
 add-requires c κs = search needs
@@ -29,18 +26,14 @@ same-length-3 c = search needs
 returns : tie.Need-returns
 unfolding addSaid
 returns c = left-so (c .in-numbers .ensures)
-    (rw (
-      c .before .before .before .before .before .before .before .before .before .before .before .before .at .ensures,
-      c .before .before .before .before .before .before .before .before .before .before .before .at2 .ensures,
-    ) at
+    (rw (c .before .before .before .before .before .before .before .before .before .before .before .of .ensures) at
     (c .before .before .before .before .before .before .before .add .ensures))
 
 pub kheyambo-add-spec : {M : Type 1} → statement M
 kheyambo-add-spec =
     tie.close
     (tie.spec
-    at-requires
-    at-requires-2
+    of-requires
     add-requires
     in-numbers-requires
     same-length

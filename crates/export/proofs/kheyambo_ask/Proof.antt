@@ -5,11 +5,8 @@ use borrow.Author.Needs.{needs}
 use Rattle.export.proofs.kheyambo_ask.Statement.{statement}
 use Rattle.export.proofs.kheyambo_ask.Tie as tie
 
-at-requires : tie.Need-at-requires
-at-requires c κs = search needs
-
-at-requires-2 : tie.Need-at-requires-2
-at-requires-2 c κs = search needs
+of-requires : tie.Need-of-requires
+of-requires c κs = search needs
 
 ask-requires : tie.Need-ask-requires
 ask-requires c κs = search needs
@@ -26,15 +23,14 @@ same-length c = search needs
 returns : tie.Need-returns
 unfolding askSaid
 returns c = told-so (c .before .number-of .ensures) (c .detail-of .ensures)
-    (rw (c .before .before .before .before .before .before .before .at .ensures, c .before .before .before .before .before .before .at2 .ensures) at
+    (rw (c .before .before .before .before .before .before .of .ensures) at
     (c .before .before .before .before .ask .ensures))
 
 pub kheyambo-ask-spec : {M : Type 1} → statement M
 kheyambo-ask-spec =
     tie.close
     (tie.spec
-    at-requires
-    at-requires-2
+    of-requires
     ask-requires
     number-of-requires
     detail-of-requires

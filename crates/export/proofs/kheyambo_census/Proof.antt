@@ -4,11 +4,12 @@ use Rattle.layout.specs.Calls.{index}
 use Rattle.verify.specs.Opening.{outcomeOf}
 use Rattle.verify.proofs.Opening.{told}
 use Rattle.view.proofs.Entries.{readable, rows-opened}
-use Rattle.export.specs.Said.{saidOf, checkSaid, censusSaid, numbers}
+use Rattle.export.specs.Said.{saidOf, checkSaid, censusSaid}
 use Rattle.export.proofs.Thin.{counted-so}
 use borrow.Author.Needs.{needs}
 use Rattle.export.proofs.kheyambo_census.Statement.{statement}
 use Rattle.export.proofs.kheyambo_census.Tie as tie
+use Rattle.ruler.specs.Ruler.{numbersOf}
 
 open-requires : tie.Need-open-requires
 open-requires c κs = search needs
@@ -17,7 +18,7 @@ rows-opened-requires : tie.Need-rows-opened-requires
 rows-opened-requires c κs =
     let a = c .before .before .before .before .args in
     let x = index (a .directory .now) (a .originals .now) (a .replicas .now) in
-    readable (numbers (a .w) (a .m)) x (c .«open» .ensures)
+    readable (numbersOf (a .w) (a .m)) x (c .«open» .ensures)
 
 outcome-of-requires : tie.Need-outcome-of-requires
 outcome-of-requires c κs = search needs
@@ -30,9 +31,9 @@ unfolding censusSaid checkSaid
 returns c =
     let a = c .before .before .before .before .before .before .before .args in
     let x = index (a .directory .now) (a .originals .now) (a .replicas .now) in
-    let said = c .before .outcome-of .ensures ∙ ap outcomeOf (c .before .before .before .«open» .ensures) ∙ told (numbers (a .w) (a .m)) x in
+    let said = c .before .outcome-of .ensures ∙ ap outcomeOf (c .before .before .before .«open» .ensures) ∙ told (numbersOf (a .w) (a .m)) x in
     counted-so (c .in-numbers .ensures ∙ ap saidOf said)
-    (c .before .before .rows-opened .ensures ∙ rows-opened (numbers (a .w) (a .m)) x _ (c .before .before .before .«open» .ensures))
+    (c .before .before .rows-opened .ensures ∙ rows-opened (numbersOf (a .w) (a .m)) x _ (c .before .before .before .«open» .ensures))
 
 pub kheyambo-census-spec : {M : Type 1} → statement M
 kheyambo-census-spec =

@@ -5,6 +5,7 @@ use borrow.Author.Tests.{not-true, not-false}
 use Rattle.ruler.specs.declared.Numbers.{Numbers}
 use Rattle.ruler.specs.Ruler.{scaleOf}
 use Rattle.ruler.proofs.Judging.{judged-good, judged-out}
+use Rattle.ruler.proofs.Fair.{scale-good}
 use Rattle.layout.specs.Words.{directoryLength}
 use Rattle.layout.specs.Refusals.{refuse}
 use Rattle.layout.proofs.Checked.{check-bounds, check-length, check-words}
@@ -26,8 +27,8 @@ enum-told : tie.Need-enum-told
 enum-told c = search needs
 
 returns : tie.Need-returns
-unfolding scaleOf openedAs
-returns c = opened-as _ _ (check-bounds _ _ (judged-out _ (sym (c .before .before .new .ensures) ∙ c .enum-told .given .1)))
+unfolding openedAs
+returns c = opened-as _ _ (check-bounds _ _ (scale-good _ ∙ judged-out _ (sym (c .before .before .new .ensures) ∙ c .enum-told .given .1)))
 
 bottom-requires : tie.Need-bottom-requires
 bottom-requires c κs = search needs
@@ -39,13 +40,13 @@ directory-length-requires c κs =
     rw (c .bottom .ensures) (deep-ruler (ruler .0 .0) (rw (made .numbers) (made .good)))
 
 returns-2 : tie.Need-returns-2
-unfolding scaleOf openedAs
+unfolding openedAs
 returns-2 c =
     let ruler = c .before .before .before .before .ruler .given in
     let made = judged-good _ (ruler .0 .0) (sym (c .before .before .before .before .before .before .new .ensures) ∙ ruler .1) in
     let bottom = c .before .before .bottom .ensures ∙ ap (λ (k : Numbers). scaleOf k .m) (made .numbers) in
     let long = c .before .directory-length .ensures ∙ ap directoryLength bottom in
-    opened-as _ _ (check-length _ _ (made .good) (λ e. c .if1 .taken (e ∙ sym long)))
+    opened-as _ _ (check-length _ _ (scale-good _ ∙ made .good) (λ e. c .if1 .taken (e ∙ sym long)))
 
 is-index-requires : tie.Need-is-index-requires
 is-index-requires c κs =
@@ -54,17 +55,17 @@ is-index-requires c κs =
     (rw (made .numbers) (made .good), c .if1 .left ∙ c .before .directory-length .ensures ∙ ap directoryLength (c .before .before .bottom .ensures))
 
 returns-3 : tie.Need-returns-3
-unfolding scaleOf refuse openedAs
+unfolding refuse openedAs
 returns-3 c =
     let ruler = c .before .before .before .before .before .before .ruler .given in
     let made = judged-good _ (ruler .0 .0) (sym (c .before .before .before .before .before .before .before .before .new .ensures) ∙ ruler .1) in
     let bottom = c .before .before .before .before .bottom .ensures ∙ ap (λ (k : Numbers). scaleOf k .m) (made .numbers) in
     let long = c .before .before .before .directory-length .ensures ∙ ap directoryLength bottom in
     let refused = rw (made .numbers) at (sym (c .before .is-index .ensures) ∙ not-true _ (c .if2 .taken)) in
-    opened-as _ _ (check-words _ _ false (made .good) (c .before .before .if1 .left ∙ long) refused)
+    opened-as _ _ (check-words _ _ false (scale-good _ ∙ made .good) (c .before .before .if1 .left ∙ long) refused)
 
 returns-4 : tie.Need-returns-4
-unfolding scaleOf refuse openedAs
+unfolding refuse openedAs
 returns-4 c =
     let ruler = c .before .before .before .before .before .before .ruler .given in
     let made = judged-good _ (ruler .0 .0) (sym (c .before .before .before .before .before .before .before .before .new .ensures) ∙ ruler .1) in
@@ -72,7 +73,7 @@ returns-4 c =
     let long = c .before .before .before .directory-length .ensures ∙ ap directoryLength bottom in
     let passed = rw (made .numbers) at (sym (c .before .is-index .ensures) ∙ not-false _ (c .if2 .left)) in
     ap (λ (k : Numbers). Opens (record { numbers = k })) (made .numbers)
-    ∙ opened-as _ _ (check-words _ _ true (made .good) (c .before .before .if1 .left ∙ long) passed)
+    ∙ opened-as _ _ (check-words _ _ true (scale-good _ ∙ made .good) (c .before .before .if1 .left ∙ long) passed)
 
 pub open-spec : {M : Type 1} → statement M
 open-spec =

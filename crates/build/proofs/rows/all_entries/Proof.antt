@@ -5,8 +5,7 @@ use lib.ListN.{length, drop}
 use Rattle.lists.specs.Lists.{sumOver}
 use Rattle.ruler.specs.Ruler.{scale}
 use Rattle.layout.specs.Words.{entryWords, tripAt, rows}
-use Rattle.layout.specs.Refusals.{mostPartitions, partitionsHolding}
-use Rattle.layout.proofs.Partitions.{Fits}
+use Rattle.layout.specs.Refusals.{mostPartitions, partitionsHolding, Fits}
 use Rattle.layout.proofs.Few.{never-eleven}
 use Rattle.layout.proofs.Rows.{length-rows}
 use Rattle.layout.proofs.RulerCells.{deep-ruler}

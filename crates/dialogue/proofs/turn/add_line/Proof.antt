@@ -20,11 +20,8 @@ returns c =
     λ l. done-else (a .desk .started) _ _ (not-true _ (c .before .before .before .before .if1 .taken))
     (c .before .before .bad-turn .ensures (index (a .directory .now) (a .originals .now) (a .replicas .now)) l)
 
-at-requires : tie.Need-at-requires
-at-requires c κs = search needs
-
-at-requires-2 : tie.Need-at-requires-2
-at-requires-2 c κs = search needs
+of-requires : tie.Need-of-requires
+of-requires c κs = search needs
 
 add-turn-requires : tie.Need-add-turn-requires
 add-turn-requires c κs = search needs
@@ -44,12 +41,9 @@ same-length-5 c = search needs
 returns-2 : tie.Need-returns-2
 unfolding turnOf
 returns-2 c = λ l. done-then
-    (c .before .before .before .before .before .before .before .before .before .before .before .before .before .before .before .before .before .before .before .before .before .args .desk .started)
-    _ _ (not-false _ (c .before .before .before .before .before .before .before .before .before .before .before .before .before .before .before .if1 .left))
-    (rw (
-      c .before .before .before .before .before .before .before .before .before .before .before .before .before .before .at .ensures,
-      c .before .before .before .before .before .before .before .before .before .before .before .before .before .at2 .ensures,
-    ) at
+    (c .before .before .before .before .before .before .before .before .before .before .before .before .before .before .before .before .before .before .before .before .args .desk .started)
+    _ _ (not-false _ (c .before .before .before .before .before .before .before .before .before .before .before .before .before .before .if1 .left))
+    (rw (c .before .before .before .before .before .before .before .before .before .before .before .before .before .of .ensures) at
     (c .before .before .before .before .before .before .before .before .add-turn .ensures l))
 
 pub add-line-spec : {M : Type 1} → statement M
@@ -59,8 +53,7 @@ add-line-spec =
     bad-turn-requires
     same-length
     returns
-    at-requires
-    at-requires-2
+    of-requires
     add-turn-requires
     same-length-2
     same-length-3

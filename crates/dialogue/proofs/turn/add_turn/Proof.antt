@@ -7,8 +7,8 @@ use borrow.Author.Needs.{needs}
 use Rattle.dialogue.proofs.turn.add_turn.Statement.{statement}
 use Rattle.dialogue.proofs.turn.add_turn.Tie as tie
 
-directory-length-requires : tie.Need-directory-length-requires
-directory-length-requires c κs = search needs
+directory-words-requires : tie.Need-directory-words-requires
+directory-words-requires c κs = search needs
 
 sub-add : tie.Need-sub-add
 sub-add c = search needs
@@ -18,7 +18,7 @@ part-add-start c = search needs
 
 part-add-end : tie.Need-part-add-end
 part-add-end c = let g = c .before .before .before .before .before .before in
-    in-front (g .args .desk .numbers) (g .args .directory .now) (c .directory-length .ensures) (g .pre .0) (g .pre .1)
+    in-front (g .args .desk .numbers) (g .args .directory .now) (c .directory-words .ensures) (g .pre .0) (g .pre .1)
 
 add-requires : tie.Need-add-requires
 add-requires c κs = search needs
@@ -46,7 +46,7 @@ returns c =
     let g = c .before .before .before .before .before .before .before .before .before .before .before .before .before .before .before .before .before .before .before .before .before
     in
     let a = g .args in
-    let n = c .before .before .before .before .before .before .before .before .before .before .before .before .before .before .before .directory-length
+    let n = c .before .before .before .before .before .before .before .before .before .before .before .before .before .before .before .directory-words
     in
     let made = c .before .before .before .before .before .before .before .before .before .before .before .add in
     let call : Index → After = λ x. addOf (scaleOf (a .desk .numbers)) x (a .t) in
@@ -59,7 +59,7 @@ pub add-turn-spec : {M : Type 1} → statement M
 add-turn-spec =
     tie.close
     (tie.spec
-    directory-length-requires
+    directory-words-requires
     sub-add
     part-add-start
     part-add-end

@@ -20,11 +20,8 @@ returns c =
     done-else (a .desk .started) _ _ (not-true _ (c .before .before .before .before .if1 .taken))
     (c .before .before .bad-turn .ensures (index (a .directory .now) (a .originals .now) (a .replicas .now)) (a .answers .now))
 
-at-requires : tie.Need-at-requires
-at-requires c κs = search needs
-
-at-requires-2 : tie.Need-at-requires-2
-at-requires-2 c κs = search needs
+of-requires : tie.Need-of-requires
+of-requires c κs = search needs
 
 ask-turn-requires : tie.Need-ask-turn-requires
 ask-turn-requires c κs = search needs
@@ -38,12 +35,9 @@ same-length-3 c = search needs
 returns-2 : tie.Need-returns-2
 unfolding turnOf
 returns-2 c = done-then
-    (c .before .before .before .before .before .before .before .before .before .before .before .before .before .before .before .before .args .desk .started)
-    _ _ (not-false _ (c .before .before .before .before .before .before .before .before .before .if1 .left))
-    (rw (
-      c .before .before .before .before .before .before .before .before .at .ensures,
-      c .before .before .before .before .before .before .before .at2 .ensures,
-    ) at (c .before .before .before .before .ask-turn .ensures))
+    (c .before .before .before .before .before .before .before .before .before .before .before .before .before .before .before .args .desk .started)
+    _ _ (not-false _ (c .before .before .before .before .before .before .before .before .if1 .left))
+    (rw (c .before .before .before .before .before .before .before .of .ensures) at (c .before .before .before .before .ask-turn .ensures))
 
 pub ask-line-spec : {M : Type 1} → statement M
 ask-line-spec =
@@ -52,8 +46,7 @@ ask-line-spec =
     bad-turn-requires
     same-length
     returns
-    at-requires
-    at-requires-2
+    of-requires
     ask-turn-requires
     same-length-2
     same-length-3

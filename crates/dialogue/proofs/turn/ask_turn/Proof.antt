@@ -9,8 +9,8 @@ use borrow.Author.Needs.{needs}
 use Rattle.dialogue.proofs.turn.ask_turn.Statement.{statement}
 use Rattle.dialogue.proofs.turn.ask_turn.Tie as tie
 
-directory-length-requires : tie.Need-directory-length-requires
-directory-length-requires c κs = search needs
+directory-words-requires : tie.Need-directory-words-requires
+directory-words-requires c κs = search needs
 
 sub-ask : tie.Need-sub-ask
 sub-ask c = search needs
@@ -20,7 +20,7 @@ part-ask-start c = search needs
 
 part-ask-end : tie.Need-part-ask-end
 part-ask-end c = let g = c .before .before .before .before .before .before .before in
-    in-front (g .args .desk .numbers) (g .args .directory .now) (c .directory-length .ensures) (g .pre .0) (g .pre .1)
+    in-front (g .args .desk .numbers) (g .args .directory .now) (c .directory-words .ensures) (g .pre .0) (g .pre .1)
 
 ask-requires : tie.Need-ask-requires
 ask-requires c κs = search needs
@@ -37,7 +37,7 @@ part-put-answer-start c = search needs
 part-put-answer-end : tie.Need-part-put-answer-end
 part-put-answer-end c =
     let a = c .before .before .before .before .before .before .before .before .before .before .before .before .before .before .before .args in
-    count-within (scaleOf (a .desk .numbers)) _ (a .code) (a .window) (a .answers .now) (c .before .before .before .before .before .ask .ensures)
+    count-within (scaleOf (a .desk .numbers)) _ (a .asking) (a .answers .now) (c .before .before .before .before .before .ask .ensures)
     (c .before .before .before .before .answers .given)
 
 put-answer-requires : tie.Need-put-answer-requires
@@ -45,8 +45,8 @@ put-answer-requires c κs =
     let a = c .before .before .before .before .before .before .before .before .before .before .before .before .before .before .before .before .args in
     let asked = c .before .before .before .before .before .before .ask in
     let kept = c .before .before .before .before .before .answers .given in
-    let within = count-within (scaleOf (a .desk .numbers)) _ (a .code) (a .window) (a .answers .now) (asked .ensures) kept in
-    let part = mid-len 0 (asked .result .count) (asked .last .1 .1 .1 .1 .1 .1 .0) within in
+    let within = count-within (scaleOf (a .desk .numbers)) _ (a .asking) (a .answers .now) (asked .ensures) kept in
+    let part = mid-len 0 (asked .result .count) (asked .last .1 .1 .1 .1 .1 .0) within in
     (omega (arith, part, within, kept), omega (arith, part, within, kept))
 
 goes-on-requires : tie.Need-goes-on-requires
@@ -62,8 +62,8 @@ returns : tie.Need-returns
 returns c =
     let a = c .before .before .before .before .before .before .before .before .before .before .before .before .before .before .before .before .before .before .before .before .args
     in
-    let n = c .before .before .before .before .before .before .before .before .before .before .before .before .before .directory-length in
-    let call : Index → Asked = λ x. askOf (scaleOf (a .desk .numbers)) x (a .code) (a .window) (a .answers .now) in
+    let n = c .before .before .before .before .before .before .before .before .before .before .before .before .before .directory-words in
+    let call : Index → Asked = λ x. askOf (scaleOf (a .desk .numbers)) x (a .asking) (a .answers .now) in
     rw (c .goes-on .ensures) (answered-done (a .desk .numbers) (a .directory .now) (a .originals .now) (a .replicas .now) (n .result) (n .ensures)
     (a .desk) (a .answers .now) call (c .before .before .before .before .before .before .before .before .before .before .ask .ensures)
     (c .before .before .before .put-answer .ensures))
@@ -72,7 +72,7 @@ pub ask-turn-spec : {M : Type 1} → statement M
 ask-turn-spec =
     tie.close
     (tie.spec
-    directory-length-requires
+    directory-words-requires
     sub-ask
     part-ask-start
     part-ask-end

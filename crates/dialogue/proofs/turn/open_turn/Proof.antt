@@ -5,8 +5,8 @@ use borrow.Author.Needs.{needs}
 use Rattle.dialogue.proofs.turn.open_turn.Statement.{statement}
 use Rattle.dialogue.proofs.turn.open_turn.Tie as tie
 
-directory-length-requires : tie.Need-directory-length-requires
-directory-length-requires c κs = search needs
+directory-words-requires : tie.Need-directory-words-requires
+directory-words-requires c κs = search needs
 
 sub-build : tie.Need-sub-build
 sub-build c = search needs
@@ -26,7 +26,7 @@ part-build-start-2 c = search needs
 part-build-end-2 : tie.Need-part-build-end-2
 part-build-end-2 c =
     let g = c .before .before .before .before .before .before .before in
-    in-front (g .args .numbers) (g .args .directory .now) (c .before .before .directory-length .ensures) (g .pre .0) (g .pre .1)
+    in-front (g .args .numbers) (g .args .directory .now) (c .before .before .directory-words .ensures) (g .pre .0) (g .pre .1)
 
 build-requires : tie.Need-build-requires
 build-requires c κs = search needs
@@ -54,7 +54,7 @@ returns c =
     let g = c .before .before .before .before .before .before .before .before .before .before .before .before .before .before .before .before .before .before .before .before .before .before
     in
     let a = g .args in
-    let n = c .before .before .before .before .before .before .before .before .before .before .before .before .before .before .before .before .before .directory-length
+    let n = c .before .before .before .before .before .before .before .before .before .before .before .before .before .before .before .before .before .directory-words
     in
     λ l. opened-done (a .numbers) (a .directory .now) (a .originals .now) (a .replicas .now) (n .result) (n .ensures) (g .pre .0) (g .pre .1)
     (a .desk) l (c .before .before .before .before .before .before .before .before .before .before .before .build .ensures) refl
@@ -65,7 +65,7 @@ pub open-turn-spec : {M : Type 1} → statement M
 open-turn-spec =
     tie.close
     (tie.spec
-    directory-length-requires
+    directory-words-requires
     sub-build
     part-build-start
     part-build-end

@@ -7,8 +7,8 @@ use borrow.Author.Needs.{needs}
 use Rattle.dialogue.proofs.turn.remove_turn.Statement.{statement}
 use Rattle.dialogue.proofs.turn.remove_turn.Tie as tie
 
-directory-length-requires : tie.Need-directory-length-requires
-directory-length-requires c κs = search needs
+directory-words-requires : tie.Need-directory-words-requires
+directory-words-requires c κs = search needs
 
 sub-remove : tie.Need-sub-remove
 sub-remove c = search needs
@@ -18,7 +18,7 @@ part-remove-start c = search needs
 
 part-remove-end : tie.Need-part-remove-end
 part-remove-end c = let g = c .before .before .before .before .before .before in
-    in-front (g .args .desk .numbers) (g .args .directory .now) (c .directory-length .ensures) (g .pre .0) (g .pre .1)
+    in-front (g .args .desk .numbers) (g .args .directory .now) (c .directory-words .ensures) (g .pre .0) (g .pre .1)
 
 remove-requires : tie.Need-remove-requires
 remove-requires c κs = search needs
@@ -46,7 +46,7 @@ returns c =
     let g = c .before .before .before .before .before .before .before .before .before .before .before .before .before .before .before .before .before .before .before .before .before
     in
     let a = g .args in
-    let n = c .before .before .before .before .before .before .before .before .before .before .before .before .before .before .before .directory-length
+    let n = c .before .before .before .before .before .before .before .before .before .before .before .before .before .before .before .directory-words
     in
     let made = c .before .before .before .before .before .before .before .before .before .before .before .remove in
     let call : Index → After = λ x. removeOf (scaleOf (a .desk .numbers)) x (a .id) in
@@ -59,7 +59,7 @@ pub remove-turn-spec : {M : Type 1} → statement M
 remove-turn-spec =
     tie.close
     (tie.spec
-    directory-length-requires
+    directory-words-requires
     sub-remove
     part-remove-start
     part-remove-end

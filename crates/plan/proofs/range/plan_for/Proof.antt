@@ -1,8 +1,7 @@
 -- The window's cells and the ruler's own go to the table.
 use lib.Pow.{pow-pos}
 use Rattle.lists.proofs.Tests.{to-T}
-use Rattle.ruler.specs.Ruler.{scaleOf}
-use Rattle.ruler.proofs.Fair.{bounds}
+use Rattle.ruler.proofs.Fair.{scale-m}
 use Rattle.plan.specs.Plan.{planFor}
 use native.Mathlib.Omega.{arith}
 use borrow.Author.Needs.{needs}
@@ -22,9 +21,8 @@ at-requires : tie.Need-at-requires
 at-requires c κs = search needs
 
 power-requires : tie.Need-power-requires
-unfolding scaleOf
 power-requires c κs = let s = c .before .before .before .before in
-    omega (arith, c .before .before .before .bottom .ensures, bounds (s .args .ruler .numbers) (to-T (s .pre)) .deep)
+    omega (arith, c .before .before .before .bottom .ensures, scale-m (s .args .ruler .numbers) (to-T (s .pre)))
 
 sub-at : tie.Need-sub-at
 sub-at c = omega (arith, c .power .ensures, pow-pos (c .before .before .before .before .bottom .result))

@@ -7,11 +7,11 @@ use borrow.Author.Tests.{not-true, not-false}
 use Rattle.lists.specs.Lists.{sumOver}
 use Rattle.ruler.specs.Ruler.{scale}
 use Rattle.layout.specs.Words.{tripAt, rows}
-use Rattle.layout.specs.Refusals.{mostPartitions, partitionsHolding}
+use Rattle.layout.specs.Refusals.{mostPartitions, partitionsHolding, fits}
 use Rattle.layout.proofs.Few.{never-eleven}
 use Rattle.layout.proofs.RulerCells.{deep-ruler}
 use Rattle.verify.specs.Passing.{each}
-use Rattle.verify.specs.Local.{fitsTest, countsTo}
+use Rattle.verify.specs.Local.{countsTo}
 use Rattle.verify.proofs.Home.{trip-fits}
 use Rattle.verify.proofs.Passes.{each-more, each-stop, each-end, sum-more, sum-end}
 use native.Mathlib.Omega.{arith}
@@ -22,7 +22,7 @@ abbrev Inv-loop : tie.InvT-loop
 Inv-loop ruler n part rows₀ k₀ sum₀ k sum =
     let s = scale ruler in
     (k ≤ rows₀) × (sum ≤ mostPartitions * k)
-    × (each (fitsTest s) (drop k (rows part)) ≡ each (fitsTest s) (rows part))
+    × (each (fits s) (drop k (rows part)) ≡ each (fits s) (rows part))
     × (sum + sumOver (partitionsHolding s) (drop k (rows part)) ≡ sumOver (partitionsHolding s) (rows part))
 
 abbrev μ-loop : tie.MeasureT-loop
@@ -42,7 +42,7 @@ unfolding countsTo
 returns c =
     let g = c .before .before .before .before .before .before .args in
     let k = c .before .before .before .before .loop in
-    let p = fitsTest (scale (g .ruler)) in
+    let p = fits (scale (g .ruler)) in
     let fails : p (tripAt (g .part .now) (k .k)) ≡ false =
     rw (← c .before .before .trip-at .ensures, ← c .before .fits2 .ensures) (not-true _ (c .if1 .taken))
     in
@@ -52,7 +52,7 @@ returns c =
 partitions-holding-requires : tie.Need-partitions-holding-requires Inv-loop μ-loop
 partitions-holding-requires c κs =
     let good = c .before .before .before .before .before .before .pre .0 in
-    (good, trip-fits _ _ good (sym (c .before .fits2 .ensures) ∙ not-false _ (c .if1 .left)))
+    (good, trip-fits _ (c .before .before .trip-at .result) good (sym (c .before .fits2 .ensures) ∙ not-false _ (c .if1 .left)))
 
 cast-sum : tie.Need-cast-sum Inv-loop μ-loop
 cast-sum c = omega arith
@@ -78,10 +78,10 @@ loop-again c =
     let read = c .before .before .before .trip-at .ensures in
     let few = never-eleven s (c .before .before .before .trip-at .result) (deep-ruler (g .args .ruler) (g .pre .0)) in
     let held : c .partitions-holding .result ≡ partitionsHolding s (tripAt part (k .k)) = rw (← read) (c .partitions-holding .ensures) in
-    let passes : fitsTest s (tripAt part (k .k)) ≡ true = rw (← read, ← c .before .before .fits2 .ensures) (not-false _ (c .before .if1 .left)) in (
+    let passes : fits s (tripAt part (k .k)) ≡ true = rw (← read, ← c .before .before .fits2 .ensures) (not-false _ (c .before .if1 .left)) in (
       omega arith,
       omega (arith, c .partitions-holding .ensures),
-      each-more part (fitsTest s) (k .k) (omega arith) passes ∙ k .inv .2,
+      each-more part (fits s) (k .k) (omega arith) passes ∙ k .inv .2,
       omega (arith, held, k .inv .3, sum-more part (partitionsHolding s) (k .k) (omega arith)),
     )
 
@@ -92,7 +92,7 @@ returns-2 c =
     let s = scale (g .ruler) in
     let part = g .part .now in
     let k = c .before .loop in
-    let fit = sym (k .inv .2) ∙ each-end part (fitsTest s) (k .k) (omega arith) in
+    let fit = sym (k .inv .2) ∙ each-end part (fits s) (k .k) (omega arith) in
     let all : sumOver (partitionsHolding s) (rows part) ≡ k .sum = omega
     (arith, k .inv .3, sum-end part (partitionsHolding s) (k .k) (omega arith)) in
     rw (fit, all)

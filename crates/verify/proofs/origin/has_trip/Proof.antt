@@ -11,14 +11,14 @@ find-place-requires c κs = search needs
 trip-at-requires : tie.Need-trip-at-requires
 trip-at-requires c κs = omega arith
 
-same-trip-requires : tie.Need-same-trip-requires
-same-trip-requires c κs = search needs
+same-requires : tie.Need-same-requires
+same-requires c κs = search needs
 
 returns : tie.Need-returns
 returns c =
     let g = c .before .before .before .before .before in
     let place = c .before .before .before .find-place .ensures in
-    rw (c .same-trip .ensures, c .before .trip-at .ensures) (found-there (g .args .part .now) (g .args .t) (g .pre) _ place (omega arith))
+    rw (c .same .ensures, c .before .trip-at .ensures) (found-there (g .args .part .now) (g .args .t) (g .pre) _ place (omega arith))
 
 returns-2 : tie.Need-returns-2
 returns-2 c =
@@ -27,4 +27,4 @@ returns-2 c =
 
 pub has-trip-spec : {M : Type 1} → statement M
 has-trip-spec =
-    tie.close (tie.spec find-place-requires trip-at-requires same-trip-requires returns returns-2)
+    tie.close (tie.spec find-place-requires trip-at-requires same-requires returns returns-2)

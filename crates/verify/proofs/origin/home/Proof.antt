@@ -40,7 +40,7 @@ at-level-requires-2 c κs =
     (level-deep (g .args .ruler) (g .args .t) (g .pre .0) (g .pre .1), deep-ruler (g .args .ruler) (g .pre .0))
 
 same-requires : tie.Need-same-requires
-same-requires c κs = search needs
+same-requires c κs = rw (c .at-level2 .ensures, c .before .at-level .ensures) refl
 
 slot-number-requires : tie.Need-slot-number-requires
 slot-number-requires c κs =

@@ -1,21 +1,19 @@
--- The three tests of `fitsTest`.
-use Rattle.verify.specs.Local.{fitsTest}
+-- Tests 4 and 5, as they are told.
+use mathlib.Core.Path.{ap, _∙_}
+use Rattle.layout.specs.Refusals.{isAccepted, onRuler}
 use borrow.Author.Needs.{needs}
 use Rattle.verify.proofs.partition.fits.Statement.{statement}
 use Rattle.verify.proofs.partition.fits.Tie as tie
 
-has-requires : tie.Need-has-requires
-has-requires c κs = search needs
+time-outcome-requires : tie.Need-time-outcome-requires
+time-outcome-requires c κs = search needs
 
-has-requires-2 : tie.Need-has-requires-2
-has-requires-2 c κs = search needs
-
-no-later-requires : tie.Need-no-later-requires
-no-later-requires c κs = search needs
+is-accepted-requires : tie.Need-is-accepted-requires
+is-accepted-requires c κs = search needs
 
 returns : tie.Need-returns
-unfolding fitsTest
-returns c = rw (c .before .before .has .ensures, c .before .has2 .ensures, c .no-later .ensures)
+unfolding onRuler
+returns c = c .is-accepted .ensures ∙ ap isAccepted (c .before .time-outcome .ensures)
 
 pub fits-spec : {M : Type 1} → statement M
-fits-spec = tie.close (tie.spec has-requires has-requires-2 no-later-requires returns)
+fits-spec = tie.close (tie.spec time-outcome-requires is-accepted-requires returns)

@@ -1,0 +1,37 @@
+// A question as it is put, judged: its code names a relationship, and its window is on the ruler.
+use layout::Outcome;
+use layout::Refusal;
+use layout::time_outcome;
+use ruler::Ruler;
+use trip::Asking;
+use trip::Named;
+use trip::Question;
+use trip::relationship_of;
+ghost use mathlib.Core.Path.{_≡_};
+ghost use mathlib.Core.Bool.{true};
+ghost use Rattle.ruler.specs.Ruler.{inBounds, scale};
+ghost use Rattle.ask.specs.Judged.{judgedOf};
+
+pub enum Judgement {
+    Fit(Question),
+    Unfit(Refusal),
+}
+
+// 9, 4 and 5, in this order.
+pub fn judge(ruler: Ruler, asking: Asking) -> Judgement
+    requires { ⌜ inBounds (ruler .numbers) ≡ true ⌝ }
+    ensures { λ r. ⌜ r ≡ judgedOf (scale ruler) asking ⌝ }
+{
+    let Named::As(relationship) = relationship_of(asking.code) else {
+        return Judgement::Unfit(Refusal::NoRelationship);
+    };
+    let window = asking.window;
+    let times = time_outcome(ruler, window.start, window.end, 0);
+    if let Outcome::Refused { refusal, detail: _ } = times {
+        return Judgement::Unfit(refusal);
+    }
+    Judgement::Fit(Question {
+        window,
+        relationship,
+    })
+}
