@@ -1,6 +1,6 @@
 -- Calls and their answers, made of tests/conformance/vectors.txt by tests/conformance/to-antt.
 use mathlib.Core.List.{List, [], _∷_}
-use Rattle.conformance.specs.Calls.{Case, case, build, check, ask, census}
+use Rattle.conformance.specs.Calls.{Case, case, build, check, add, remove, ask, run, census}
 
 unfoldable pub cases : List Case
 cases =
