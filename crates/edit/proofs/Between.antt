@@ -23,15 +23,16 @@ use Rattle.layout.proofs.Chains.{Room}
 use Rattle.layout.proofs.Indexes.{Indexed}
 use Rattle.layout.proofs.Walk.{those, inSlot, walk-once, walk-below}
 use Rattle.store.specs.Slots.{Holds}
+use Rattle.store.specs.Parts.{arenaOf}
 use Rattle.store.specs.Ordered.{noTrip}
 use Rattle.store.proofs.Laid.{laid-holds, holds-laid}
 use Rattle.edit.specs.Places.{Orderly}
-use Rattle.edit.specs.Halves.{arenaOf, HalfOf}
+use Rattle.edit.specs.Halves.{HalfOf}
 use Rattle.edit.proofs.Halfway.{among-those, few-once, Spots, halfway, spot-among, halfway-start, halfway-end, spot-in, halfway-here}
 
 -- the room that the whole table has is in this half's arena
 pub room-in : (s : Scale) (half : Half) (ts : List Trip) (x : Index) → Room s ts (lengthsOf x)
-    → entryWords * length (entries s half ts) ≤ length (arenaOf half x)
+    → entryWords * length (entries s half ts) ≤ length (arenaOf half (x .originals) (x .replicas))
 unfolding lengthsOf
 room-in s Originals ts x r = r .for-originals
 room-in s Replicas ts x r = r .for-replicas
@@ -64,15 +65,16 @@ module _ (s : Scale) (half : Half) (x : Index) (t : Trip) (ts : List Trip) where
 
     pub start : Holds dir arena (slotsAfter 0)
     start =
+        let old = arenaOf half (x .originals) (x .replicas) in
         subst (Holds dir arena) (sym (halfway-start _ _ _ _ spots))
-        (laid-holds s half (tableOf s x) dir arena (length (arenaOf half x)) (p .words-are .directory-is) (p .words-are .arena-is))
+        (laid-holds s half (tableOf s x) dir arena (length old) (p .words-are .directory-is) (p .words-are .arena-is))
 
     -- the arena is as long as it was
-    pub long : length arena ≡ length (arenaOf half x)
+    pub long : length arena ≡ length (arenaOf half (x .originals) (x .replicas))
     unfolding laid.arena
     long =
         ap length (p .words-are .arena-is)
-        ∙ padded-length (length (arenaOf half x)) (words (entries s half (tableOf s x)))
+        ∙ padded-length (length (arenaOf half (x .originals) (x .replicas))) (words (entries s half (tableOf s x)))
         (rw words-length (room-in s half (tableOf s x) x (p .is-index .table .room)))
 
     module _ (j : ℕ) (h : j < length (slotsOfTrip s half t)) where

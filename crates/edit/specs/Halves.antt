@@ -6,21 +6,16 @@ use lib.ListN.{length}
 use Rattle.ruler.specs.Ruler.{Scale}
 use Rattle.trip.specs.declared.Trip.{Trip}
 use Rattle.layout.specs.declared.Half.{Half}
-use Rattle.layout.specs.declared.Half.the-variants.{Originals, Replicas}
 use Rattle.layout.specs.declared.Outcome.the-variants.{Accepted}
 use Rattle.layout.specs.Words.{directoryHalf, Index}
 use Rattle.layout.specs.Words as laid
 use Rattle.layout.specs.Refusals.{tableOf, addOutcome, removeOutcome}
-
--- the half's arena of an index
-abbrev pub arenaOf : Half → Index → List ℕ
-arenaOf Originals x = x .originals
-arenaOf Replicas x = x .replicas
+use Rattle.store.specs.Parts.{arenaOf}
 
 -- these are the half's words in the index of the trips ts, in an arena as long as that of x
 pub record HalfOf (s : Scale) (half : Half) (ts : List Trip) (x : Index) (dir arena : List ℕ) : Type 0 where
   pub directory-is : dir ≡ directoryHalf s half ts
-  pub arena-is : arena ≡ laid.arena s half ts (length (arenaOf half x))
+  pub arena-is : arena ≡ laid.arena s half ts (length (arenaOf half (x .originals) (x .replicas)))
 
 -- the half's words in x, to which the trip can be added; its times have cells of the scale
 pub record Adding (s : Scale) (half : Half) (x : Index) (t : Trip) (dir arena : List ℕ) : Type 0 where

@@ -1,7 +1,7 @@
 // One slot of a half in an edit: the place of a trip in the slot's order, and the entry put in or taken out there.
-use layout::ENTRY_WORDS;
 use layout::Half;
 use layout::subdivision_of;
+use store::part::part_between;
 use store::search;
 use store::slot;
 use trip::Trip;
@@ -16,9 +16,11 @@ fn place_in(half: Half, dir: &[u32], arena: &[u32], slot: usize, t: Trip) -> usi
     requires { ⌜ ((ls : List (List Trip)) × Orderly (now dir) (now arena) ls half slot) ⌝ }
     ensures { λ r. ⌜ ((ls : List (List Trip)) → Orderly (now (dir .entry)) (now (arena .entry)) ls half slot → r ≡ placeIn half slot t ls) ⌝ }
 {
-    let first = ENTRY_WORDS * (dir[slot] as usize);
-    let end = ENTRY_WORDS * (dir[slot + 1] as usize);
-    search::find_place(&arena[first..end], subdivision_of(half, slot % 2 == 1), t)
+    search::find_place(
+        part_between(dir, arena, slot, slot + 1),
+        subdivision_of(half, slot % 2 == 1),
+        t,
+    )
 }
 
 // Puts a trip into a slot, at its place in the slot's order.

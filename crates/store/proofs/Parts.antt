@@ -1,17 +1,47 @@
--- The slots j .. k - 1 as one part of the arena, between the directory's words j and k: their words and their rows; one slot; and a slot
--- whose part comes back changed.
+-- The part of the arena between the directory's words j and k: where it is there; the slots j .. k - 1 in it, their words and their rows; one
+-- slot; and a slot whose part comes back changed.
 use mathlib.Core.Path.{_≡_, refl, sym, ap, ap₂, _∙_}
+use mathlib.Core.Bool.{true, _&&_}
 use mathlib.Core.List.{List, [], _∷_, _++_, append-assoc, append-nil}
-use Prim.Native.Nat.{ℕ, zero, suc, _+_, _-_, _*_, _%_, _≤_, _<_}
+use Prim.Native.Nat.{ℕ, zero, suc, _+_, _-_, _*_, _≤_, _<_}
 use native.Mathlib.Omega.{arith}
+use lib.Dec.{leb, leb→le, le→leb}
 use lib.ListN.{length, getD, set, take, drop, replicate, length-append, take-append-drop}
 use lib.Seq.{take-at, drop-at, take-add, drop-drop, drop-cons, set-split}
-use borrow.Rule.Slice.PartMut.{midOf, putMid}
+use borrow.Rule.Slice.PartMut.{putMid}
+use Rattle.lists.proofs.Tests.{of-and, to-and, to-T, of-T}
+use Rattle.lists.specs.Lists.{joined}
+use Rattle.ruler.specs.Ruler.{Scale}
 use Rattle.trip.specs.declared.Trip.{Trip}
-use Rattle.layout.specs.Words.{entryWords, words, rows}
-use Rattle.layout.proofs.Rows.{words-add, words-append, words-length, whole-rest, rows-words, words-rows}
+use Rattle.layout.specs.declared.Half.{Half}
+use Rattle.layout.specs.Words.{entryWords, words, rows, partitions, slot}
+use Rattle.layout.proofs.Reading.{LaidFrom, slots-rise, slots-room, slots-part}
+use Rattle.layout.proofs.Rows.{words-add, words-le, words-append, words-length, rows-words}
 use Rattle.store.specs.Slots.{flat, startsFrom, Holds}
-use Rattle.store.proofs.Slots.{ahead-flat, holds-start}
+use Rattle.store.specs.Parts.{partWords, PartThere, partInside, partIn}
+use Rattle.store.proofs.Slots.{ahead-flat, holds-slots, holds-start}
+
+-- ---- a part that is there
+
+module _ (dir arena : List ℕ) (j k : ℕ) where
+  abbrev starts : ℕ
+  starts = entryWords * getD dir j 0
+
+  abbrev ends : ℕ
+  ends = entryWords * getD dir k 0
+
+  pub of-inside : partInside dir arena j k ≡ true → (starts ≤ ends) × (ends ≤ length arena)
+  of-inside e =
+      let w = of-and (leb starts ends) (leb ends (length arena)) (to-T e) in
+      (leb→le starts ends (w .0), leb→le ends (length arena) (w .1))
+
+  pub part-words : PartThere dir arena j k → partIn dir arena j k ≡ partWords dir arena j k
+  unfolding partIn
+  part-words w =
+      rw (of-T (leb starts ends && leb ends (length arena))
+      (to-and (leb starts ends) (leb ends (length arena)) (le→leb starts ends (words-le (w .rises))) (le→leb ends (length arena) (w .room)))) refl
+
+-- ---- the words of a part as slots
 
 pub flat-append : (ls ks : List (List Trip)) → flat (ls ++ ks) ≡ flat ls ++ flat ks
 flat-append [] ks = refl
@@ -73,24 +103,25 @@ module _ (dir arena : List ℕ) (ls : List (List Trip)) (j k : ℕ) (h : Holds d
   middle-length : length (words (flat (between j k ls))) ≡ entryWords * getD dir k 0 - entryWords * getD dir j 0
   middle-length = omega (arith, long)
 
-  -- the part is one of the arena
-  pub stretch-in : (getD dir j 0 ≤ getD dir k 0) × (entryWords * getD dir j 0 ≤ entryWords * getD dir k 0)
-      × (entryWords * getD dir k 0 ≤ length arena)
-  stretch-in =
+  -- the part is there
+  pub stretch-there : PartThere dir arena j k
+  stretch-there =
       let size : length arena ≡ length first + (length (words (flat (between j k ls))) + length rest) =
       ap length stretch-whole ∙ length-append first _ ∙ ap (λ (n : ℕ). length first + n) (length-append (words (flat (between j k ls))) rest) in
-      (omega (arith, many), omega (arith, long), omega (arith, long, first-length))
+      record {
+        from-in = omega (arith, holds-slots h);
+        to-in = omega (arith, holds-slots h);
+        rises = omega (arith, many);
+        room = omega (arith, long, first-length);
+      }
 
-  -- `&arena[ENTRY_WORDS * dir[j] .. ENTRY_WORDS * dir[k]]`
-  pub stretch-words : midOf (entryWords * getD dir j 0) (entryWords * getD dir k 0 - entryWords * getD dir j 0) arena ≡ words (flat (between j k ls))
+  pub stretch-words : partWords dir arena j k ≡ words (flat (between j k ls))
+  unfolding partWords
   stretch-words =
       let a = entryWords * getD dir j 0 in
       let n = entryWords * getD dir k 0 - a in
       let m = words (flat (between j k ls)) in
       ap (λ (x : List ℕ). take n (drop a x)) stretch-whole ∙ ap (take n) (drop-at first (m ++ rest) a first-length) ∙ take-at m rest n middle-length
-
-  pub stretch-rows : rows (midOf (entryWords * getD dir j 0) (entryWords * getD dir k 0 - entryWords * getD dir j 0) arena) ≡ flat (between j k ls)
-  stretch-rows = ap rows stretch-words ∙ rows-words (flat (between j k ls))
 
   -- the arena with other words in the part's place
   stretch-put : (part : List ℕ)
@@ -118,26 +149,20 @@ starts-same n zero (l ∷ ls) x e = ap (λ (i : ℕ). n ∷ startsFrom (n + i) l
 starts-same n (suc k) (l ∷ ls) x e = ap (λ (r : List ℕ). n ∷ r) (starts-same (n + length l) k ls x e)
 
 module _ (dir arena : List ℕ) (ls : List (List Trip)) (k : ℕ) (h : Holds dir arena ls) (inside : k < length ls) where
-  pub slot-in : (getD dir k 0 ≤ getD dir (k + 1) 0) × (entryWords * getD dir k 0 ≤ entryWords * getD dir (k + 1) 0)
-      × (entryWords * getD dir (k + 1) 0 ≤ length arena)
-  slot-in = stretch-in dir arena ls k (k + 1) h (omega arith) (omega arith)
+  pub slot-there : PartThere dir arena k (k + 1)
+  slot-there = stretch-there dir arena ls k (k + 1) h (omega arith) (omega arith)
 
-  -- `&arena[ENTRY_WORDS * dir[k] .. ENTRY_WORDS * dir[k + 1]]`
-  pub slot-words : midOf (entryWords * getD dir k 0) (entryWords * getD dir (k + 1) 0 - entryWords * getD dir k 0) arena ≡ words (getD ls k [])
+  pub slot-words : partWords dir arena k (k + 1) ≡ words (getD ls k [])
   slot-words = stretch-words dir arena ls k (k + 1) h (omega arith) (omega arith) ∙ ap words (one-slot k ls inside)
 
-  pub slot-rows : rows (midOf (entryWords * getD dir k 0) (entryWords * getD dir (k + 1) 0 - entryWords * getD dir k 0) arena) ≡ getD ls k []
+  pub slot-rows : rows (partWords dir arena k (k + 1)) ≡ getD ls k []
   slot-rows = ap rows slot-words ∙ rows-words (getD ls k [])
 
-  -- the part of slot k came back with other rows, as many: the slot has these
-  pub slot-changed : (part : List ℕ) (x : List Trip)
-      → length part ≡ length (midOf (entryWords * getD dir k 0) (entryWords * getD dir (k + 1) 0 - entryWords * getD dir k 0) arena) → rows part ≡ x
-      → length x ≡ length (getD ls k [])
+  -- the part of slot k came back with the words of other trips, as many: the slot has these
+  pub slot-changed : (part : List ℕ) (x : List Trip) → part ≡ words x → length x ≡ length (getD ls k [])
       → Holds dir (putMid (entryWords * getD dir k 0) (entryWords * getD dir (k + 1) 0 - entryWords * getD dir k 0) arena part) (set ls k x)
   unfolding first rest
-  slot-changed part x size is same =
-      let n : length part ≡ entryWords * length (getD ls k []) = size ∙ ap length slot-words ∙ words-length (getD ls k []) in
-      let w : part ≡ words x = sym (words-rows part (ap (λ (m : ℕ). m % entryWords) n ∙ whole-rest (length (getD ls k [])))) ∙ ap words is in
+  slot-changed part x is same =
       let e : suc k ≡ k + 1 = omega arith in
       let a = flat (take k ls) in
       let c = flat (drop (k + 1) ls) in
@@ -149,6 +174,34 @@ module _ (dir arena : List ℕ) (ls : List (List Trip)) (k : ℕ) (h : Holds dir
       record {
         counts = h .counts ∙ sym (starts-same 0 k ls x same);
         free = h .free;
-        entries = stretch-put dir arena ls k (k + 1) h (omega arith) (omega arith) part ∙ ap (λ (y : List ℕ). words a ++ (y ++ (words c ++ z))) w
+        entries = stretch-put dir arena ls k (k + 1) h (omega arith) (omega arith) part ∙ ap (λ (y : List ℕ). words a ++ (y ++ (words c ++ z))) is
             ∙ sym (ap (λ (y : List ℕ). y ++ z) in-words ∙ simp append-assoc);
       }
+
+-- ---- the slots of an index, from the word `base` of the directory on
+
+module _ {s : Scale} {h : Half} {ts : List Trip} {d : List ℕ} {base : ℕ} {l : List ℕ} (w : LaidFrom s h ts d base l) where
+  module _ (j c : ℕ) (in-half : j + c ≤ 2 * partitions (s .m)) where
+    pub laid-there : PartThere d l (base + j) (base + (j + c))
+    laid-there = record {
+      from-in = omega (arith, w .inside);
+      to-in = omega (arith, w .inside);
+      rises = slots-rise w j c in-half;
+      room = slots-room w j c in-half;
+    }
+
+    pub laid-words : partWords d l (base + j) (base + (j + c)) ≡ words (joined (λ i. slot s h ts (j + i)) c)
+    unfolding partWords
+    laid-words = slots-part w j c in-half
+
+  -- one slot
+  module _ (k : ℕ) (in-half : k < 2 * partitions (s .m)) where
+    next : base + (k + 1) ≡ base + k + 1
+    next = omega arith
+
+    pub laid-slot-there : PartThere d l (base + k) (base + k + 1)
+    laid-slot-there = rw next at (laid-there k 1 (omega arith))
+
+    pub laid-slot : partWords d l (base + k) (base + k + 1) ≡ words (slot s h ts k)
+    unfolding joined
+    laid-slot = let none : k + 0 ≡ k = omega arith in rw (next, none) at (laid-words k 1 (omega arith))

@@ -6,6 +6,7 @@ pub mod filling;
 mod gap;
 pub mod ids;
 pub mod ordering;
+pub mod part;
 pub mod places;
 pub mod search;
 pub mod slot;

@@ -19,8 +19,9 @@ use Rattle.layout.specs.Words.{entryWords, words, rows}
 use Rattle.layout.proofs.Rows.{rows-words, words-rows, words-append, words-length, words-le}
 use Rattle.layout.proofs.RowParts.{words-joined}
 use Rattle.layout.proofs.Local.{Laid, laid-room}
+use Rattle.store.specs.Parts.{partWords, PartThere}
 use Rattle.verify.specs.Passing.{rising, blank}
-use Rattle.verify.specs.Local.{total, halfOk, SlotIn, slotWords, slotAt, tripsOf}
+use Rattle.verify.specs.Local.{total, halfOk, slotAt, tripsOf}
 
 -- ---- the tests on words, as facts
 
@@ -109,8 +110,8 @@ module _ (dir arena : List ℕ) (n : ℕ) (c : Cut dir arena n) where
   pub word-fits : (k : ℕ) → k ≤ n → entryWords * getD dir k 0 ≤ length arena
   word-fits k h = omega (arith, words-le (up-to k h), c .fits)
 
-  slot-whole : (k : ℕ) → k < n → words (slotAt dir arena k) ≡ slotWords dir arena k
-  unfolding slotAt slotWords
+  slot-whole : (k : ℕ) → k < n → words (slotAt dir arena k) ≡ partWords dir arena k (k + 1)
+  unfolding slotAt partWords
   slot-whole k h =
       let a = entryWords * getD dir k 0 in
       let b = entryWords * getD dir (k + 1) 0 in
@@ -120,7 +121,7 @@ module _ (dir arena : List ℕ) (n : ℕ) (c : Cut dir arena n) where
 
   -- the words before slot k are those of the slots before it
   pub words-cut : (k : ℕ) → k ≤ n → words (joined (slotAt dir arena) k) ≡ take (entryWords * getD dir k 0) arena
-  unfolding joined words slotWords
+  unfolding joined words partWords
   words-cut zero h = rw (c .first) refl
   words-cut (suc k) h =
       let a = entryWords * getD dir k 0 in
@@ -153,10 +154,10 @@ module _ (dir arena : List ℕ) (n : ℕ) (c : Cut dir arena n) where
   trips-cut l = rw (total-at dir n l, ← words-cut n (omega arith)) (rows-words (joined (slotAt dir arena) n))
 
 -- what a half that passes shows of slot k
-pub slot-in : (dir arena : List ℕ) (n : ℕ) → length dir ≡ n + 1 → halfOk dir arena ≡ true → (k : ℕ) → k < n → SlotIn dir arena k
+pub slot-in : (dir arena : List ℕ) (n : ℕ) → length dir ≡ n + 1 → halfOk dir arena ≡ true → (k : ℕ) → k < n → PartThere dir arena k (k + 1)
 slot-in dir arena n l e k h =
     let c = of-half dir arena n l (to-T e) in
-    record { inside = omega arith; low = c .up k h; high = word-fits dir arena n c (k + 1) (omega arith) }
+    record { from-in = omega arith; to-in = omega arith; rises = c .up k h; room = word-fits dir arena n c (k + 1) (omega arith) }
 
 -- ---- words that hold lists
 
@@ -186,7 +187,7 @@ module _ (dir arena : List ℕ) (f : ℕ → List Trip) (n : ℕ) (w : Laid dir 
 
   -- cut at its slots, each list comes back
   pub laid-at : (k : ℕ) → k < n → slotAt dir arena k ≡ f k
-  unfolding slotAt slotWords padded joined
+  unfolding slotAt partWords padded joined
   laid-at k h =
       let zeros : List ℕ = replicate (length arena - length (words (joined f n))) 0 in
       let a = entryWords * length (joined f k) in

@@ -1,7 +1,7 @@
 -- The local conditions on words: tests that lay nothing out anew, and that pass exactly where `isIndex` does (the law `locally-index`).
 use mathlib.Core.Bool.{Bool, cond, not, _&&_}
 use mathlib.Core.List.{List}
-use Prim.Native.Nat.{ℕ, zero, suc, _+_, _-_, _*_, _/_, _%_, _≤_, _<_}
+use Prim.Native.Nat.{ℕ, zero, suc, _+_, _-_, _*_, _/_, _%_}
 use lib.Dec.{leb, eqb}
 use lib.ListN.{length, getD, take, drop}
 use Rattle.lists.specs.Lists.{sumOver}
@@ -14,6 +14,7 @@ use Rattle.layout.specs.declared.Subdivision.{Subdivision}
 use Rattle.layout.specs.Stored.{within, isIn, belongs, subdivisionOf}
 use Rattle.layout.specs.Words.{entryWords, rows, order, levelOf, placeOf, slotNumber}
 use Rattle.layout.specs.Refusals.{partitionsHolding, fits}
+use Rattle.store.specs.Parts.{partWords}
 use Rattle.store.specs.Ids.{idsDiffer}
 use Rattle.verify.specs.Passing.{below, each, some, inRow, rising, blank}
 
@@ -31,18 +32,9 @@ halfOk dir arena =
     && (leb (entryWords * total dir) (length arena)
     && blank (drop (entryWords * total dir) arena)))
 
--- the words of slot k; and the trips of that slot, and of all slots
-unfoldable pub slotWords : (directory arena : List ℕ) → (k : ℕ) → List ℕ
-slotWords dir arena k = take (entryWords * getD dir (k + 1) 0 - entryWords * getD dir k 0) (drop (entryWords * getD dir k 0) arena)
-
--- what a reader of slot k shows first: the slot is one of the half's, and its words are in the arena
-pub record SlotIn (directory arena : List ℕ) (k : ℕ) : Type 0 where
-  pub inside : k + 1 < length directory
-  pub low : getD directory k 0 ≤ getD directory (k + 1) 0
-  pub high : entryWords * getD directory (k + 1) 0 ≤ length arena
-
+-- the trips of slot k, and of all slots
 unfoldable pub slotAt : (directory arena : List ℕ) → (k : ℕ) → List Trip
-slotAt dir arena k = rows (slotWords dir arena k)
+slotAt dir arena k = rows (partWords dir arena k (k + 1))
 
 unfoldable pub tripsOf : (directory arena : List ℕ) → List Trip
 tripsOf dir arena = rows (take (entryWords * total dir) arena)

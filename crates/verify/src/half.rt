@@ -10,14 +10,16 @@ use ruler::Ruler;
 use ruler::power;
 use store::entry::precedes;
 use store::entry::trip_at;
+use store::part::part_between;
 ghost use mathlib.Core.Path.{_≡_};
 ghost use mathlib.Core.Bool.{true};
 ghost use Prim.Native.Nat.{_+_, _*_, _^_, _<_, _≤_};
 ghost use lib.ListN.{length, getD, drop};
 ghost use Rattle.ruler.specs.Ruler.{inBounds, scale};
 ghost use Rattle.layout.specs.Words.{entryWords, rows, order, partitions, halfLength};
+ghost use Rattle.store.specs.Parts.{PartThere};
 ghost use Rattle.verify.specs.Passing.{inRow, rising, blank};
-ghost use Rattle.verify.specs.Local.{total, halfOk, SlotIn, slotAt, standsAt, slotOk, slotsOk};
+ghost use Rattle.verify.specs.Local.{total, halfOk, slotAt, standsAt, slotOk, slotsOk};
 
 // The last word of a half: as many entries as it has.
 pub fn entries_of(dir: &[u32]) -> usize
@@ -32,7 +34,7 @@ pub fn words_of(dir: &[u32]) -> usize
     requires { ⌜ 0 < length (now dir) ⌝ }
     ensures { λ r. ⌜ r ≡ entryWords * total (now (dir .entry)) ⌝ }
 {
-    offset(dir, dir.len() - 1)
+    ENTRY_WORDS * entries_of(dir)
 }
 
 // Whether no word is below the one before it.
@@ -79,14 +81,6 @@ pub fn half_ok(dir: &[u32], arena: &[u32]) -> bool
     (first == 0) & (up & ((used <= arena.len()) & tail))
 }
 
-// The word of the arena at which slot k begins.
-pub fn offset(dir: &[u32], k: usize) -> usize
-    requires { ⌜ k < length (now dir) ⌝ }
-    ensures { λ r. ⌜ r ≡ entryWords * getD (now (dir .entry)) k 0 ⌝ }
-{
-    ENTRY_WORDS * dir[k] as usize
-}
-
 // Whether each entry of a part may stand in this subdivision of a partition, and comes after the one before it.
 fn in_row(ruler: Ruler, d: Subdivision, partition: Cell, part: &[u32]) -> bool
     requires { ⌜ inBounds (ruler .numbers) ≡ true ⌝ }
@@ -129,12 +123,10 @@ fn slot_ok(ruler: Ruler, half: Half, k: usize, part: &[u32]) -> bool
 // Whether slot k of a half is as it should be.
 fn slot_at(ruler: Ruler, half: Half, dir: &[u32], arena: &[u32], k: usize) -> bool
     requires { ⌜ inBounds (ruler .numbers) ≡ true ⌝ }
-    requires { ⌜ (k < 2 * partitions (scale ruler .m)) × SlotIn (now dir) (now arena) k ⌝ }
+    requires { ⌜ (k < 2 * partitions (scale ruler .m)) × PartThere (now dir) (now arena) k (k + 1) ⌝ }
     ensures { λ r. ⌜ r ≡ slotOk (scale ruler) half k (slotAt (now (dir .entry)) (now (arena .entry)) k) ⌝ }
 {
-    let from = offset(dir, k);
-    let to = offset(dir, k + 1);
-    slot_ok(ruler, half, k, &arena[from..to])
+    slot_ok(ruler, half, k, part_between(dir, arena, k, k + 1))
 }
 
 // Whether every slot of a half is.

@@ -1,5 +1,4 @@
 // A replica's original: the slot where it has to stand, and a search for it there.
-use crate::half::offset;
 use crate::partition::fits;
 use crate::partition::lies_in;
 use layout::ENTRY_WORDS;
@@ -7,12 +6,13 @@ use layout::Subdivision;
 use ruler::Cell;
 use ruler::Ruler;
 use store::entry::trip_at;
+use store::part::part_between;
 use store::places::slot_number;
 use store::search::find_place;
 use trip::Trip;
 ghost use mathlib.Core.Path.{_≡_};
 ghost use mathlib.Core.Bool.{true};
-ghost use Prim.Native.Nat.{_^_, _<_, _≤_};
+ghost use Prim.Native.Nat.{_+_, _^_, _<_, _≤_};
 ghost use lib.ListN.{length};
 ghost use Rattle.lists.specs.Sifting.{InOrder};
 ghost use Rattle.ruler.specs.Ruler.{deepest, inBounds, scale};
@@ -21,8 +21,9 @@ ghost use Rattle.layout.specs.declared.Subdivision.the-variants.{OIn};
 ghost use Rattle.layout.specs.Words.{rows, order, halfLength};
 ghost use Rattle.layout.specs.Refusals.{fits};
 ghost use Rattle.store.specs.Ordered.{noTrip};
+ghost use Rattle.store.specs.Parts.{PartThere};
 ghost use Rattle.verify.specs.Passing.{each, some};
-ghost use Rattle.verify.specs.Local.{halfOk, SlotIn, slotAt, slotsOk, homeLevel, home, isKnown};
+ghost use Rattle.verify.specs.Local.{halfOk, slotAt, slotsOk, homeLevel, home, isKnown};
 ghost use Rattle.trip.specs.Trips.{sameTrip};
 
 // The level of the original entry of a trip with the level-m cells a..b.
@@ -69,13 +70,11 @@ fn has_trip(part: &[u32], t: Trip) -> bool
 
 // Whether the trip stands in slot k, which is in the order of originals.
 fn slot_has(dir: &[u32], originals: &[u32], k: usize, t: Trip) -> bool
-    requires { ⌜ SlotIn (now dir) (now originals) k ⌝ }
+    requires { ⌜ PartThere (now dir) (now originals) k (k + 1) ⌝ }
     requires { ⌜ InOrder (order OIn) noTrip (slotAt (now dir) (now originals) k) (length (slotAt (now dir) (now originals) k)) ⌝ }
     ensures { λ r. ⌜ r ≡ some (sameTrip t) (slotAt (now (dir .entry)) (now (originals .entry)) k) ⌝ }
 {
-    let from = offset(dir, k);
-    let to = offset(dir, k + 1);
-    has_trip(&originals[from..to], t)
+    has_trip(part_between(dir, originals, k, k + 1), t)
 }
 
 // Whether the original of a trip stands in its slot.

@@ -22,14 +22,15 @@ use Rattle.layout.proofs.Indexes.{Indexed}
 use Rattle.layout.proofs.Checked.{checked}
 use Rattle.layout.proofs.RulerCells.{deep-ruler}
 use Rattle.layout.proofs.Viewed.{census-accepted, census-refused, run-unchecked, run-checked, Runnable, of-run, run-accepted, run-refused, run-from-accepted, run-from-refused}
+use Rattle.store.specs.Parts.{arenaOf}
 use Rattle.verify.specs.declared.Opened.{Opened}
 use Rattle.verify.specs.declared.Opened.the-variants.{Index as Opens, Refused as Shuts}
 use Rattle.verify.specs.Opening.{openOf}
 use Rattle.verify.proofs.Opening.{Open, opened, shut}
 use Rattle.view.specs.declared.Place.{Place}
-use Rattle.view.specs.Directory.{slotAt, arenaOf}
+use Rattle.view.specs.Directory.{slotAt}
 use Rattle.view.specs.Views.{Readable, rowsOpened, placeAt, placeOf, slotPlace}
-use Rattle.view.proofs.Readings.{halves, rows-read, run-from-read, run-length, run-inside, run-part, run-few, slot-in}
+use Rattle.view.proofs.Readings.{halves, rows-read, run-from-read, run-length, run-inside, run-part, run-few, slot-there as reads-there}
 
 -- ---- the census
 
@@ -82,8 +83,8 @@ module _ (n : Numbers) (x : Index) (L i d : ℕ) where
       module _ (c : Subdivision) (p : c ≡ subdivisionNumbered d) (at : ℕ) (m : ℕ) (q : m ≡ scale r .m) (a : at ≡ slotAt m L i c) where
         pub slot-there : (at + 1 < length (x .directory)) × (getD (x .directory) at 0 ≤ getD (x .directory) (at + 1) 0)
         slot-there =
-            let t = slot-in (scale r) x (told .is-index) L i c (told .deep) (told .there) in
-            rw (a, q) (t .there-is, t .low)
+            let t = reads-there (scale r) x (told .is-index) L i c (told .deep) (told .there) in
+            rw (a, q) (t .to-in, t .rises)
 
         pub place-there : slotPlace (x .directory) at ≡ placeOf (scaleOf n) x L i d
         unfolding slotPlace
@@ -114,19 +115,21 @@ module _ (s : Scale) (x : Index) (L i d : ℕ) where
       go Accepted e = some (of-run s x L i d e)
       go (Refused why k) e = none
 
-  abbrev run-arena : Half → List ℕ
-  run-arena h = arenaOf h (x .originals) (x .replicas)
+  -- for the arena that the code has taken, of the half h, and the place p in it
+  module _ {h : Half} {arena : List ℕ} {p : Place} (e : h ≡ halfOf (subdivisionNumbered d)) (f : arena ≡ arenaOf h (x .originals) (x .replicas))
+      (q : p ≡ placeOf s x L i d) where
+    abbrev run-arena : List ℕ
+    run-arena = arenaOf (halfOf (subdivisionNumbered d)) (x .originals) (x .replicas)
 
-  pub part-inside : (h : Half) → h ≡ halfOf (subdivisionNumbered d) → {p : Place} → p ≡ placeOf s x L i d → p .from + p .length ≤ length (run-arena h)
-  part-inside h e q =
-      rw (e, q) (run-cases (λ from run. from + length run ≤ length (run-arena (halfOf (subdivisionNumbered d)))) (omega arith)
-      (λ t. run-inside s x (t .is-index) L i (subdivisionNumbered d) (t .deep) (t .there)))
+    pub part-inside : p .from + p .length ≤ length arena
+    part-inside =
+        rw (f, e, q) (run-cases (λ from run. from + length run ≤ length run-arena) (omega arith)
+        (λ t. run-inside s x (t .is-index) L i (subdivisionNumbered d) (t .deep) (t .there)))
 
-  pub part-is : (h : Half) → h ≡ halfOf (subdivisionNumbered d) → {p : Place} → p ≡ placeOf s x L i d
-      → take (p .length) (drop (p .from) (run-arena h)) ≡ runOf s x L i d
-  part-is h e q =
-      rw (e, q) (run-cases (λ from run. take (length run) (drop from (run-arena (halfOf (subdivisionNumbered d)))) ≡ run) refl
-      (λ t. run-part s x (t .is-index) L i (subdivisionNumbered d) (t .deep) (t .there)))
+    pub part-is : take (p .length) (drop (p .from) arena) ≡ runOf s x L i d
+    part-is =
+        rw (f, e, q) (run-cases (λ from run. take (length run) (drop from run-arena) ≡ run) refl
+        (λ t. run-part s x (t .is-index) L i (subdivisionNumbered d) (t .deep) (t .there)))
 
   -- 32 bits tell where it ends
   pub run-ends : runFromOf s x L i d + length (runOf s x L i d) ≤ entryWords * (mostTrips * mostPartitions)

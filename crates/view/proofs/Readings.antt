@@ -23,8 +23,10 @@ use Rattle.layout.proofs.Subdivisions.{of-half-and-side}
 use Rattle.layout.proofs.Rows.{words-length}
 use Rattle.layout.proofs.Indexes.{Indexed}
 use Rattle.layout.proofs.RoomAdded.{entries-most}
-use Rattle.layout.proofs.Reading.{slot-numbered, slot-inside, slots-apart, before-more, before-le, LaidFrom, next-word, slot-room, slot-part, originals-laid, replicas-laid}
-use Rattle.view.specs.Directory.{halfFrom, slotAt, arenaOf, everySecond, countOf, rowOf, rowsOf, Halves}
+use Rattle.layout.proofs.Reading.{slot-numbered, slot-inside, slots-apart, before-more, before-le, LaidFrom, next-word, originals-laid, replicas-laid}
+use Rattle.store.specs.Parts.{arenaOf, partWords, PartThere}
+use Rattle.store.proofs.Parts.{laid-slot-there, laid-slot}
+use Rattle.view.specs.Directory.{halfFrom, slotAt, everySecond, countOf, rowOf, rowsOf, Halves}
 
 module _ (s : Scale) (x : Index) (w : Indexed s x) where
   -- the table of the index
@@ -67,40 +69,27 @@ module _ (s : Scale) (x : Index) (w : Indexed s x) where
     unfolding runFrom slotAt
     run-from-read = ap (λ (n : ℕ). entryWords * n) (laid (halfOf d) .word (slotNumber L i (isAft d)) (omega (arith, inside)))
 
-    run-read : take (entryWords * getD dir (slotAt (s .m) L i d + 1) 0 - entryWords * getD dir (slotAt (s .m) L i d) 0)
-        (drop (entryWords * getD dir (slotAt (s .m) L i d) 0) (arenaOf (halfOf d) (x .originals) (x .replicas)))
+    run-read : partWords dir (arenaOf (halfOf d) (x .originals) (x .replicas)) (slotAt (s .m) L i d) (slotAt (s .m) L i d + 1)
         ≡ runWords s trips L i d
     unfolding runWords slotAt
-    run-read = slot-part (laid (halfOf d)) (slotNumber L i (isAft d)) inside ∙ ap words slot-is
+    run-read = laid-slot (laid (halfOf d)) (slotNumber L i (isAft d)) inside ∙ ap words slot-is
 
-    -- the words of the slot rise, and are in the arena
-    pub record SlotIn : Type 0 where
-      pub there-is : slotAt (s .m) L i d + 1 < length dir
-      pub low : getD dir (slotAt (s .m) L i d) 0 ≤ getD dir (slotAt (s .m) L i d + 1) 0
-      pub high : entryWords * getD dir (slotAt (s .m) L i d + 1) 0 ≤ length (arenaOf (halfOf d) (x .originals) (x .replicas))
-
-    pub slot-in : SlotIn
+    pub slot-there : PartThere dir (arenaOf (halfOf d) (x .originals) (x .replicas)) (slotAt (s .m) L i d) (slotAt (s .m) L i d + 1)
     unfolding slotAt
-    slot-in =
-        let h = halfOf d in
-        let k = slotNumber L i (isAft d) in
-        record {
-          there-is = omega (arith, inside, laid h .inside);
-          low = omega (arith, next-word (laid h) k inside);
-          high = slot-room (laid h) k inside;
-        }
+    slot-there = laid-slot-there (laid (halfOf d)) (slotNumber L i (isAft d)) inside
 
     pub run-length : entryWords * getD dir (slotAt (s .m) L i d + 1) 0 - entryWords * getD dir (slotAt (s .m) L i d) 0
         ≡ length (runWords s trips L i d)
     unfolding runWords
-    run-length = omega (arith, slot-count, slot-in .low, words-length (slotTrips s d L i trips))
+    run-length = omega (arith, slot-count, slot-there .rises, words-length (slotTrips s d L i trips))
 
     -- so the run is the part of the arena at its place
     pub run-inside : runFrom s trips L i d + length (runWords s trips L i d) ≤ length (arenaOf (halfOf d) (x .originals) (x .replicas))
-    run-inside = omega (arith, run-from-read, run-length, slot-in .low, slot-in .high)
+    run-inside = omega (arith, run-from-read, run-length, slot-there .rises, slot-there .room)
 
     pub run-part : take (length (runWords s trips L i d)) (drop (runFrom s trips L i d) (arenaOf (halfOf d) (x .originals) (x .replicas)))
         ≡ runWords s trips L i d
+    unfolding partWords
     run-part = rw (← run-length, ← run-from-read) run-read
 
     -- a run ends within the entries of the most trips in the most partitions each

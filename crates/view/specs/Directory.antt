@@ -24,11 +24,6 @@ halfFrom m Replicas = halfLength m
 unfoldable pub slotAt : (m L i : ℕ) → Subdivision → ℕ
 slotAt m L i d = halfFrom m (halfOf d) + slotNumber L i (isAft d)
 
--- the arena of a half
-abbrev pub arenaOf : Half → (originals replicas : List ℕ) → List ℕ
-arenaOf Originals originals replicas = originals
-arenaOf Replicas originals replicas = replicas
-
 -- the entries of n slots, each the second after the one before it: a word of the directory taken from the next, n times
 unfoldable pub everySecond : (directory : List ℕ) → (from n : ℕ) → ℕ
 everySecond dir from zero = 0

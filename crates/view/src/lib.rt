@@ -13,8 +13,8 @@ use ruler::Ruler;
 use ruler::power;
 use slots::half_of;
 use slots::numbered;
-use slots::part_of;
 use slots::slot_at;
+use store::part::arena_of;
 use verify::Opened;
 use verify::check;
 use verify::open;
@@ -189,10 +189,10 @@ pub fn run<'a>(
         partition,
         subdivision,
     );
-    let half = half_of(numbered(subdivision));
+    let arena = arena_of(half_of(numbered(subdivision)), originals, replicas);
     let from = p.from;
     let to = from + p.length;
-    part_of(half, originals, replicas, from, to)
+    &arena[from..to]
 }
 
 // The word of the arena at which the run begins; 0 where it is refused.

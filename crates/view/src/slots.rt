@@ -1,15 +1,14 @@
-// Where a slot's word stands in the directory, and a part of one of the arenas.
+// Where a slot's word stands in the directory.
 use layout::Half;
 use layout::Subdivision;
 use ruler::Cell;
 use ruler::power;
 use store::places::slot_number;
 ghost use mathlib.Core.Path.{_≡_};
-ghost use Prim.Native.Nat.{_-_, _^_, _<_, _≤_};
-ghost use lib.ListN.{length, take, drop};
+ghost use Prim.Native.Nat.{_^_, _<_, _≤_};
 ghost use Rattle.ruler.specs.Ruler.{deepest};
 ghost use Rattle.layout.specs.Answers.{halfOf, isAft, subdivisionNumbered};
-ghost use Rattle.view.specs.Directory.{halfFrom, slotAt, arenaOf};
+ghost use Rattle.view.specs.Directory.{halfFrom, slotAt};
 
 // The subdivision with a number of 0 to 3.
 pub fn numbered(number: u32) -> Subdivision
@@ -62,21 +61,4 @@ pub fn slot_at(m: u32, level: u32, i: u32, d: Subdivision) -> usize
     ensures { λ r. ⌜ r ≡ slotAt m level i d ⌝ }
 {
     half_from(m, half_of(d)) + slot_number(Cell::at(level, i), is_aft(d)) as usize
-}
-
-// A part of the arena of a half.
-pub fn part_of<'a>(
-    half: Half,
-    originals: &'a [u32],
-    replicas: &'a [u32],
-    from: usize,
-    to: usize,
-) -> &'a [u32]
-    requires { ⌜ (from ≤ to) × (to ≤ length (arenaOf half (now originals) (now replicas))) ⌝ }
-    ensures { λ r. ⌜ now r ≡ take (to - from) (drop from (arenaOf half (now (originals .entry)) (now (replicas .entry)))) ⌝ }
-{
-    match half {
-        Half::Originals => &originals[from..to],
-        Half::Replicas => &replicas[from..to],
-    }
 }

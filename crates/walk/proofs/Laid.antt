@@ -22,28 +22,19 @@ use Rattle.layout.specs.Stored.{subdivisionOf}
 use Rattle.layout.specs.Words.{entryWords, rows, tripAt, order, partitions, partitionNumber, slot}
 use Rattle.layout.proofs.RowOrder.{Distinct, slot-sorted}
 use Rattle.layout.proofs.Rows.{length-rows, getD-rows, rows-words}
-use Rattle.layout.proofs.Reading.{LaidFrom, slot-from, slots-rise, slots-room, slots-part}
+use Rattle.layout.proofs.Reading.{LaidFrom, slot-from}
+use Rattle.store.specs.Parts.{partWords, PartThere}
+use Rattle.store.proofs.Parts.{laid-there, laid-words}
 use Rattle.plan.specs.Plan.{firstSlot, stretch}
 use Rattle.plan.proofs.Looked.{slotFrom, slotsFrom}
-use Rattle.walk.specs.Part.{stretchWords, There}
 use Rattle.walk.proofs.Slots.{InTurn, afterIn, SlotsThere}
 
 -- ---- the entries between two words
 
 module _ {s : Scale} {h : Half} {ts : List Trip} {d : List ℕ} {base : ℕ} {l : List ℕ} (w : LaidFrom s h ts d base l) where
   -- the slots j .. j + c - 1
-  module _ (j c : ℕ) (in-half : j + c ≤ 2 * partitions (s .m)) (sure : Bool) where
-    slots-are : rows (stretchWords d l (stretch (base + j) (base + (j + c)) sure)) ≡ joined (λ i. slot s h ts (j + i)) c
-    unfolding stretchWords
-    slots-are = ap rows (slots-part w j c in-half) ∙ rows-words (joined (λ i. slot s h ts (j + i)) c)
-
-    slots-there : There d l (stretch (base + j) (base + (j + c)) sure)
-    slots-there = record {
-      from-in = omega (arith, w .inside);
-      to-in = omega (arith, w .inside);
-      rises = slots-rise w j c in-half;
-      room = slots-room w j c in-half;
-    }
+  slots-are : (j c : ℕ) → j + c ≤ 2 * partitions (s .m) → rows (partWords d l (base + j) (base + (j + c))) ≡ joined (λ i. slot s h ts (j + i)) c
+  slots-are j c in-half = ap rows (laid-words w j c in-half) ∙ rows-words (joined (λ i. slot s h ts (j + i)) c)
 
 -- ---- the slots of a partition, in their order
 
@@ -58,24 +49,24 @@ module _ {s : Scale} {h : Half} {ts : List Trip} {d : List ℕ} {base : ℕ} {l 
     (sure : Bool) where
   -- a stretch of one slot, and one of none
   one-turns : (aft : Bool) (j : ℕ) → j + 1 ≤ 2 * partitions (s .m) → eqb (j % 2) 1 ≡ aft
-      → InTurn h aft (stretchWords d l (stretch (base + j) (base + (j + 1)) sure))
+      → InTurn h aft (partWords d l (base + j) (base + (j + 1)))
   unfolding joined
   one-turns aft j in-half e =
       let zero-more : j + 0 ≡ j = omega arith in
       in-turn (order (subdivisionOf h aft)) _
-      (rw (slots-are w j 1 in-half sure, zero-more) (rw e at (slot-sorted s h ts j distinct)))
+      (rw (slots-are w j 1 in-half, zero-more) (rw e at (slot-sorted s h ts j distinct)))
 
-  none-turns : (aft : Bool) (j : ℕ) → j + 0 ≤ 2 * partitions (s .m) → InTurn h aft (stretchWords d l (stretch (base + j) (base + (j + 0)) sure))
+  none-turns : (aft : Bool) (j : ℕ) → j + 0 ≤ 2 * partitions (s .m) → InTurn h aft (partWords d l (base + j) (base + (j + 0)))
   unfolding joined
-  none-turns aft j in-half = in-turn (order (subdivisionOf h aft)) _ (rw (slots-are w j 0 in-half sure) none)
+  none-turns aft j in-half = in-turn (order (subdivisionOf h aft)) _ (rw (slots-are w j 0 in-half) none)
 
   -- the first slots of a partition: none, the "in" slot, or both
   slots-in-turn : (j n : ℕ) → n ≤ 2 → j % 2 ≡ 0 → j + n ≤ 2 * partitions (s .m) → SlotsThere h d l (stretch (base + j) (base + (j + n)) sure)
   slots-in-turn j zero few even in-half =
       let same : base + (j + 0) ≡ base + j = omega arith in
       let after : afterIn (stretch (base + j) (base + (j + 0)) sure) ≡ base + j = rw (le-ltb (base + j) (base + (j + 0)) (omega arith)) refl in
-      let here = slots-there w j 0 in-half sure in
-      let turns : (aft : Bool) → InTurn h aft (stretchWords d l (stretch (base + j) (base + j) sure)) = λ aft.
+      let here = laid-there w j 0 in-half in
+      let turns : (aft : Bool) → InTurn h aft (partWords d l (base + j) (base + j)) = λ aft.
       rw same at (none-turns aft j in-half) in
       record {
         whole = here;
@@ -91,9 +82,9 @@ module _ {s : Scale} {h : Half} {ts : List Trip} {d : List ℕ} {base : ℕ} {l 
       rw (lt-ltb (base + j) (base + (j + 1)) (omega arith)) (sym next)
       in
       record {
-        whole = slots-there w j 1 in-half sure;
-        in-there = rw after (slots-there w j 1 in-half sure);
-        aft-there = rw after (rw end at (slots-there w (j + 1) 0 (omega arith) sure));
+        whole = laid-there w j 1 in-half;
+        in-there = rw after (laid-there w j 1 in-half);
+        aft-there = rw after (rw end at (laid-there w (j + 1) 0 (omega arith)));
         in-order = rw after (one-turns false j in-half (rw even refl));
         aft-order = rw after (rw end at (none-turns true (j + 1) (omega arith)));
       }
@@ -105,9 +96,9 @@ module _ {s : Scale} {h : Half} {ts : List Trip} {d : List ℕ} {base : ℕ} {l 
       rw (lt-ltb (base + j) (base + (j + 2)) (omega arith)) (sym next)
       in
       record {
-        whole = slots-there w j 2 in-half sure;
-        in-there = rw after (slots-there w j 1 (omega arith) sure);
-        aft-there = rw after (rw end at (slots-there w (j + 1) 1 (omega arith) sure));
+        whole = laid-there w j 2 in-half;
+        in-there = rw after (laid-there w j 1 (omega arith));
+        aft-there = rw after (rw end at (laid-there w (j + 1) 1 (omega arith)));
         in-order = rw after (one-turns false j (omega arith) (rw even refl));
         aft-order = rw after (rw end at (one-turns true (j + 1) (omega arith) (rw odd refl)));
       }
@@ -130,17 +121,17 @@ module _ (s : Scale) (h : Half) (ts : List Trip) (L i n : ℕ) (deep : L ≤ s .
 
 -- so a stretch from a level's slot on has the entries of the level's slots
 module _ {s : Scale} {h : Half} {ts : List Trip} {d : List ℕ} {base : ℕ} {l : List ℕ} (w : LaidFrom s h ts d base l) (L i n : ℕ) (deep : L ≤ s .m)
-    (inside : 2 * i + n ≤ 2 * 2 ^ L) {from to : ℕ} (sure : Bool) (at-from : from ≡ base + firstSlot L i) (at-to : to ≡ base + (firstSlot L i + n))
+    (inside : 2 * i + n ≤ 2 * 2 ^ L) {from to : ℕ} (at-from : from ≡ base + firstSlot L i) (at-to : to ≡ base + (firstSlot L i + n))
   where
-    pub stretch-is : rows (stretchWords d l (stretch from to sure)) ≡ slotsFrom s h ts L i n
+    pub stretch-is : rows (partWords d l from to) ≡ slotsFrom s h ts L i n
     stretch-is =
-        rw (at-from, at-to) (slots-are w (firstSlot L i) n (level-in s h ts L i n deep inside) sure ∙ level-slots s h ts L i n deep inside)
+        rw (at-from, at-to) (slots-are w (firstSlot L i) n (level-in s h ts L i n deep inside) ∙ level-slots s h ts L i n deep inside)
 
-    pub stretch-there : There d l (stretch from to sure)
-    stretch-there = rw (at-from, at-to) (slots-there w (firstSlot L i) n (level-in s h ts L i n deep inside) sure)
+    pub stretch-there : PartThere d l from to
+    stretch-there = rw (at-from, at-to) (laid-there w (firstSlot L i) n (level-in s h ts L i n deep inside))
 
     -- and the first slots of a partition are in their order
-    pub partition-there : n ≤ 2 → Distinct ts → SlotsThere h d l (stretch from to sure)
+    pub partition-there : (sure : Bool) → n ≤ 2 → Distinct ts → SlotsThere h d l (stretch from to sure)
     unfolding firstSlot
-    partition-there few distinct = rw (at-from, at-to) (slots-in-turn w distinct sure (firstSlot L i) n few (omega arith)
+    partition-there sure few distinct = rw (at-from, at-to) (slots-in-turn w distinct sure (firstSlot L i) n few (omega arith)
         (level-in s h ts L i n deep inside))

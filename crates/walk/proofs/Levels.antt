@@ -22,7 +22,8 @@ use Rattle.plan.specs.Plan.{Ranged, originalSlots, replicaSlots, firstSlot, slo
 use Rattle.plan.proofs.Looked.{slotsFrom, width, lookedAt, levelWalk, walk}
 use Rattle.plan.proofs.Ranges.{few-slots, cells-ordered, high-in}
 use Rattle.plan.proofs.Sure.{three-pieces, first-sure, between-sure, last-sure, one-sure, replicas-sure}
-use Rattle.walk.specs.Part.{stretchMatches, There}
+use Rattle.store.specs.Parts.{PartThere}
+use Rattle.walk.specs.Part.{stretchMatches}
 use Rattle.walk.specs.Levels.{levelMatches, LevelsThere, walkMatches}
 use Rattle.walk.proofs.Slots.{SlotsThere, AllThere, fourMatches}
 use Rattle.walk.proofs.Looks.{none-kept, level-looks, level-there}
@@ -61,18 +62,18 @@ module _ {s : Scale} {t : Trip → Bool} {p : Plan} {x : Index} (r : Ready s t p
   replicas = replicas-laid s x indexed
 
   -- a stretch of n slots from partition i on: it is there, and these match
-  piece-there : (i n from to : ℕ) (sure : Bool) → 2 * i + n ≤ 2 * 2 ^ L → from ≡ firstSlot L i → to ≡ firstSlot L i + n
-      → There (x .directory) (x .originals) (stretch from to sure)
-  piece-there i n from to sure h f g = stretch-there originals L i n deep h sure (omega arith) (omega arith)
+  piece-there : (i n from to : ℕ) → 2 * i + n ≤ 2 * 2 ^ L → from ≡ firstSlot L i → to ≡ firstSlot L i + n
+      → PartThere (x .directory) (x .originals) from to
+  piece-there i n from to h f g = stretch-there originals L i n deep h (omega arith) (omega arith)
 
   slots-there : (i n from to : ℕ) (sure : Bool) → n ≤ 2 → 2 * i + n ≤ 2 * 2 ^ L → from ≡ firstSlot L i → to ≡ firstSlot L i + n
       → SlotsThere Originals (x .directory) (x .originals) (stretch from to sure)
-  slots-there i n from to sure few h f g = partition-there originals L i n deep h sure (omega arith) (omega arith) few apart
+  slots-there i n from to sure few h f g = partition-there originals L i n deep h (omega arith) (omega arith) sure few apart
 
   piece-is : (i n from to : ℕ) (sure : Bool) → 2 * i + n ≤ 2 * 2 ^ L → from ≡ firstSlot L i → to ≡ firstSlot L i + n
       → stretchMatches t (x .directory) (x .originals) (stretch from to sure) ≡ keepUnless sure t (slotsFrom s Originals ts L i n)
   unfolding stretchMatches
-  piece-is i n from to sure h f g = ap (keepUnless sure t) (stretch-is originals L i n deep h sure (omega arith) (omega arith))
+  piece-is i n from to sure h f g = ap (keepUnless sure t) (stretch-is originals L i n deep h (omega arith) (omega arith))
 
   -- the first slots of the two partitions, and where the replicas' half begins, as the code has them
   module _ (P Q H : ℕ) (at-P : P ≡ firstSlot L a) (at-Q : Q ≡ firstSlot L b) (at-H : H ≡ halfLength (s .m)) where
@@ -92,7 +93,7 @@ module _ {s : Scale} {t : Trip → Bool} {p : Plan} {x : Index} (r : Ready s t p
         let f = few-slots (p .kind) in
         let i = high-in (r .ranged) L deep in
         let o = cells-ordered (r .ranged) L deep in
-        partition-there replicas L a k deep (omega arith) (sureFirst p L) (omega arith) (omega arith) (f .1) apart
+        partition-there replicas L a k deep (omega arith) (omega arith) (omega arith) (sureFirst p L) (f .1) apart
 
     arranged-there : (c : Bool) → ltb P Q ≡ c → there
     unfolding arranged firstSlot partitionNumber
@@ -102,7 +103,7 @@ module _ {s : Scale} {t : Trip → Bool} {p : Plan} {x : Index} (r : Ready s t p
         let i = high-in (r .ranged) L deep in
         rw e (record {
           first = slots-there a 2 P (P + 2) (sureFirst p L) (omega arith) (omega arith) at-P (omega arith);
-          between = piece-there (a + 1) (2 * (b - (a + 1))) (P + 2) Q (p .quick) (omega arith) (omega arith) (omega arith);
+          between = piece-there (a + 1) (2 * (b - (a + 1))) (P + 2) Q (omega arith) (omega arith) (omega arith);
           last = slots-there b n Q (Q + n) (sureLast p L) (f .0) (omega arith) at-Q (omega arith);
           replicas = copies-there;
           first-between = refl;
@@ -114,7 +115,7 @@ module _ {s : Scale} {t : Trip → Bool} {p : Plan} {x : Index} (r : Ready s t p
         let o = cells-ordered (r .ranged) L deep in
         rw e (record {
           first = slots-there a 0 P P (p .quick) (omega arith) (omega arith) at-P (omega arith);
-          between = piece-there a 0 P P (p .quick) (omega arith) at-P (omega arith);
+          between = piece-there a 0 P P (omega arith) at-P (omega arith);
           last = slots-there a n P (P + n) (sureFirst p L && sureLast p L) (f .0) (omega arith) at-P (omega arith);
           replicas = copies-there;
           first-between = refl;
@@ -128,7 +129,7 @@ module _ {s : Scale} {t : Trip → Bool} {p : Plan} {x : Index} (r : Ready s t p
         let f = few-slots (p .kind) in
         let i = high-in (r .ranged) L deep in
         let o = cells-ordered (r .ranged) L deep in
-        ap (keepUnless (sureFirst p L) t) (stretch-is replicas L a k deep (omega arith) (sureFirst p L) (omega arith) (omega arith))
+        ap (keepUnless (sureFirst p L) t) (stretch-is replicas L a k deep (omega arith) (omega arith) (omega arith))
         ∙ replicas-sure s ts t p (r .ranged) (r .sure) L
 
     arranged-are : (c : Bool) → ltb P Q ≡ c

@@ -20,7 +20,8 @@ use Rattle.plan.specs.declared.looks.Look.{Look}
 use Rattle.plan.specs.Bounds.{inside}
 use Rattle.plan.specs.Plan.{keepUnless, stretch}
 use Rattle.plan.specs.Looks.{frontEnd, frontOf, backOf, looks, originalLooks, lookAt}
-use Rattle.walk.specs.Part.{Listed, stretchWords, stretchMatches, There}
+use Rattle.store.specs.Parts.{partWords, PartThere}
+use Rattle.walk.specs.Part.{Listed, stretchMatches}
 use Rattle.walk.specs.Levels.{lookWords, partOf, LookThere, lookMatches, levelLook, levelMatches, LevelThere, looksFrom, looksTo}
 use Rattle.walk.proofs.Slots.{InTurn, inSlot, aftSlot, afterIn, SlotsThere, AllThere, fourMatches}
 use Rattle.walk.proofs.Rows.{row-room, row-fits}
@@ -51,7 +52,7 @@ no-rows = refl
 
 -- without entries it has no matches
 bare-none : (t : Trip → Bool) (d a : List ℕ) (s : Stretch) → getD d (s .from) 0 ≡ getD d (s .to) 0 → stretchMatches t d a s ≡ []
-unfolding stretchMatches stretchWords
+unfolding stretchMatches partWords
 bare-none t d a s e =
     let nothing : entryWords * getD d (s .to) 0 - entryWords * getD d (s .from) 0 ≡ 0 = rw e (omega arith) in
     rw (nothing, no-rows) (none-kept (s .sure) t)
@@ -71,7 +72,7 @@ front-in s e = rw e refl
 
 module _ {h : Half} {d l : List ℕ} {s : Stretch} (w : SlotsThere h d l s) where
   two-slots : (t : Trip → Bool) → stretchMatches t d l s ≡ stretchMatches t d l (inSlot s) ++ stretchMatches t d l (aftSlot s)
-  unfolding stretchMatches stretchWords
+  unfolding stretchMatches partWords
   two-slots t =
       let a = getD d (s .from) 0 in
       let b = getD d (afterIn s) 0 in
@@ -84,11 +85,11 @@ module _ {h : Half} {d l : List ℕ} {s : Stretch} (w : SlotsThere h d l s) wher
   looks-meet t true e = rw (front-all s e, bare-none t d l (stretch (s .to) (s .to) (s .sure)) refl, append-nil) refl
   looks-meet t false e = rw (front-in s e) (two-slots t)
 
-  front-at : (c : Bool) → s .sure ≡ c → There d l (frontOf s)
+  front-at : (c : Bool) → s .sure ≡ c → PartThere d l (s .from) (frontEnd s)
   front-at true e = rw (front-all s e) (w .whole)
   front-at false e = rw (front-in s e) (w .in-there)
 
-  back-at : (c : Bool) → s .sure ≡ c → There d l (backOf s)
+  back-at : (c : Bool) → s .sure ≡ c → PartThere d l (frontEnd s) (s .to)
   back-at true e =
       rw (front-all s e) (record { from-in = w .whole .to-in; to-in = w .whole .to-in; rises = omega arith; room = w .whole .room })
   back-at false e = rw (front-in s e) (w .aft-there)
@@ -96,16 +97,16 @@ module _ {h : Half} {d l : List ℕ} {s : Stretch} (w : SlotsThere h d l s) wher
   two-looks : (t : Trip → Bool) → stretchMatches t d l s ≡ stretchMatches t d l (frontOf s) ++ stretchMatches t d l (backOf s)
   two-looks t = looks-meet t (s .sure) refl
 
-  front-there : There d l (frontOf s)
+  front-there : PartThere d l (s .from) (frontEnd s)
   front-there = front-at (s .sure) refl
 
-  back-there : There d l (backOf s)
+  back-there : PartThere d l (frontEnd s) (s .to)
   back-there = back-at (s .sure) refl
 
-  front-turns : s .sure ≡ false → InTurn h false (stretchWords d l (frontOf s))
+  front-turns : s .sure ≡ false → InTurn h false (partWords d l (s .from) (frontEnd s))
   front-turns e = rw (front-in s e) (w .in-order)
 
-  back-turns : s .sure ≡ false → InTurn h true (stretchWords d l (backOf s))
+  back-turns : s .sure ≡ false → InTurn h true (partWords d l (frontEnd s) (s .to))
   back-turns e = rw (front-in s e) (w .aft-order)
 
 -- ---- the looks of a level

@@ -13,7 +13,8 @@ use Rattle.layout.specs.Words.{entryWords, tripAt, order}
 use Rattle.plan.specs.declared.stretches.Stretch.{Stretch}
 use Rattle.plan.specs.declared.stretches.Stretches.{Stretches}
 use Rattle.plan.specs.Plan.{stretch}
-use Rattle.walk.specs.Part.{stretchWords, stretchMatches, There}
+use Rattle.store.specs.Parts.{partWords, PartThere}
+use Rattle.walk.specs.Part.{stretchMatches}
 
 -- the entries of a part are in the order of their subdivision
 abbrev pub InTurn : Half → (aft : Bool) → (part : List ℕ) → Type 0
@@ -31,16 +32,16 @@ aftSlot s = stretch (afterIn s) (s .to) (s .sure)
 
 -- both are there, in their order
 pub record SlotsThere (h : Half) (directory arena : List ℕ) (s : Stretch) : Type 0 where
-  pub whole : There directory arena s
-  pub in-there : There directory arena (inSlot s)
-  pub aft-there : There directory arena (aftSlot s)
-  pub in-order : InTurn h false (stretchWords directory arena (inSlot s))
-  pub aft-order : InTurn h true (stretchWords directory arena (aftSlot s))
+  pub whole : PartThere directory arena (s .from) (s .to)
+  pub in-there : PartThere directory arena (s .from) (afterIn s)
+  pub aft-there : PartThere directory arena (afterIn s) (s .to)
+  pub in-order : InTurn h false (partWords directory arena (s .from) (afterIn s))
+  pub aft-order : InTurn h true (partWords directory arena (afterIn s) (s .to))
 
 -- the stretches of a level, in a directory d: three of the originals o, side by side, and one of the replicas r; and their matches
 pub record AllThere (d o r : List ℕ) (s : Stretches) : Type 0 where
   pub first : SlotsThere Originals d o (s .first)
-  pub between : There d o (s .between)
+  pub between : PartThere d o (s .between .from) (s .between .to)
   pub last : SlotsThere Originals d o (s .last)
   pub replicas : SlotsThere Replicas d r (s .replicas)
   pub first-between : s .first .to ≡ s .between .from

@@ -7,26 +7,21 @@ use lib.Dec.{eqb}
 use lib.ListN.{getD}
 use Rattle.lists.specs.Lists.{joined}
 use Rattle.trip.specs.declared.Trip.{Trip}
-use Rattle.layout.specs.declared.Half.{Half}
-use Rattle.layout.specs.declared.Half.the-variants.{Originals, Replicas}
+use Rattle.store.specs.Parts.{arenaOf, partWords, PartThere}
 use Rattle.plan.specs.declared.bounds.Bounds.{Bounds}
 use Rattle.plan.specs.declared.range.Plan.{Plan}
 use Rattle.plan.specs.declared.stretches.Stretches.{Stretches}
 use Rattle.plan.specs.declared.looks.Look.{Look}
 use Rattle.plan.specs.Plan.{Ranged, stretchesAt}
 use Rattle.plan.specs.Looks.{looks, originalLooks, lookAt}
-use Rattle.walk.specs.Part.{stretchWords, stretchMatches, There}
+use Rattle.walk.specs.Part.{stretchMatches}
 use Rattle.walk.specs.Cut.{Ordered, cutOf}
 
 -- ---- one look
 
-abbrev pub arenaOf : Half → (originals replicas : List ℕ) → List ℕ
-arenaOf Originals o r = o
-arenaOf Replicas o r = r
-
 -- its words; what is left to test of them; and its matches
 unfoldable pub lookWords : (directory originals replicas : List ℕ) → Look → List ℕ
-lookWords d o r l = stretchWords d (arenaOf (l .half) o r) (l .stretch)
+lookWords d o r l = partWords d (arenaOf (l .half) o r) (l .stretch .from) (l .stretch .to)
 
 unfoldable pub partOf : Bounds → (directory originals replicas : List ℕ) → Look → List ℕ
 partOf b d o r l = cond (l .stretch .sure) (lookWords d o r l) (cutOf (l .order) b (lookWords d o r l))
@@ -36,7 +31,7 @@ lookMatches t d o r l = stretchMatches t d (arenaOf (l .half) o r) (l .stretch)
 
 -- its words are there, and in its order where they are tested
 pub record LookThere (d o r : List ℕ) (l : Look) : Type 0 where
-  pub there : There d (arenaOf (l .half) o r) (l .stretch)
+  pub there : PartThere d (arenaOf (l .half) o r) (l .stretch .from) (l .stretch .to)
   pub ordered : l .stretch .sure ≡ false → Ordered (l .order) (lookWords d o r l)
 
 -- ---- the looks of a level

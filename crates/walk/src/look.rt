@@ -1,16 +1,16 @@
 // What a look sees: a part of one of the two arenas, without the entries that are known not to match; and which looks of a level see anything.
 use crate::cut::cut;
-use layout::ENTRY_WORDS;
-use layout::Half;
 use plan::bounds::Bounds;
 use plan::looks::LOOKS;
 use plan::looks::Look;
 use plan::looks::ORIGINAL_LOOKS;
 use plan::stretches::Stretches;
+use store::part::arena_of;
+use store::part::part_between;
 ghost use mathlib.Core.Path.{_≡_};
 ghost use Prim.Native.Nat.{_<_};
 ghost use lib.ListN.{length};
-ghost use Rattle.walk.specs.Levels.{arenaOf, LookThere, partOf, looksFrom, looksTo};
+ghost use Rattle.walk.specs.Levels.{LookThere, partOf, looksFrom, looksTo};
 
 // The looks of a level from one on, up to another. Where a half has no entries from the first look's word to the last one's, none of its looks
 // has, and they are passed over by this one comparison.
@@ -41,16 +41,6 @@ pub fn looks_to(level: Stretches, directory: &[u32]) -> usize
     LOOKS
 }
 
-// The arena of a half.
-fn arena_of<'a>(half: Half, originals: &'a [u32], replicas: &'a [u32]) -> &'a [u32]
-    ensures { λ r. ⌜ now r ≡ arenaOf half (now (originals .entry)) (now (replicas .entry)) ⌝ }
-{
-    match half {
-        Half::Originals => originals,
-        Half::Replicas => replicas,
-    }
-}
-
 // The entries of a look. Where not all are known to match, and they are in an order of times, they are cut to those whose time can.
 pub fn part_of<'a>(
     look: Look,
@@ -65,12 +55,10 @@ pub fn part_of<'a>(
     let stretch = look.stretch;
     let from = stretch.from;
     let to = stretch.to;
-    let a = directory[from] as usize;
-    let b = directory[to] as usize;
     let half = look.half;
     let order = look.order;
     let arena = arena_of(half, originals, replicas);
-    let part = &arena[ENTRY_WORDS * a..ENTRY_WORDS * b];
+    let part = part_between(directory, arena, from, to);
     if stretch.sure {
         return part;
     }

@@ -20,11 +20,14 @@ numbered-requires c κs = search needs
 half-of-requires : tie.Need-half-of-requires
 half-of-requires c κs = search needs
 
+arena-of-requires : tie.Need-arena-of-requires
+arena-of-requires c κs = search needs
+
 add-to : tie.Need-add-to
 add-to c =
-    let a = c .before .before .before .before .before .before .before .args in
+    let a = c .before .before .before .before .before .before .before .before .args in
     let x = index (a .directory .now) (a .originals .now) (a .replicas .now) in
-    let p = c .before .before .before .run-place .ensures in
+    let p = c .before .before .before .before .run-place .ensures in
     omega (
       arith,
       ap (λ (k : Place). k .from) p,
@@ -32,25 +35,41 @@ add-to c =
       run-ends (scaleOf (a .numbers)) x (a .level) (a .partition) (a .subdivision),
     )
 
-part-of-requires : tie.Need-part-of-requires
-part-of-requires c κs =
-    let a = c .before .before .before .before .before .before .before .args in
+mul-result : tie.Need-mul-result
+mul-result c =
+    let a = c .before .before .before .before .before .before .before .before .args in
     let x = index (a .directory .now) (a .originals .now) (a .replicas .now) in
-    let s = scaleOf (a .numbers) in
-    let p = c .before .before .before .run-place .ensures in
-    let half = c .before .half-of .ensures ∙ ap halfOf (c .before .before .numbered .ensures) in
-    (omega arith, part-inside s x (a .level) (a .partition) (a .subdivision) _ half p)
+    let p = c .before .before .before .before .run-place .ensures in
+    omega (
+      arith,
+      ap (λ (k : Place). k .from) p,
+      ap (λ (k : Place). k .length) p,
+      run-ends (scaleOf (a .numbers)) x (a .level) (a .partition) (a .subdivision),
+    )
+
+sub-result : tie.Need-sub-result
+sub-result c = search needs
+
+part-result-start : tie.Need-part-result-start
+part-result-start c = search needs
+
+part-result-end : tie.Need-part-result-end
+part-result-end c =
+    let a = c .before .before .before .before .before .before .before .before .args in
+    let x = index (a .directory .now) (a .originals .now) (a .replicas .now) in
+    let p = c .before .before .before .before .run-place .ensures in
+    let half = c .before .before .half-of .ensures ∙ ap halfOf (c .before .before .before .numbered .ensures) in
+    part-inside (scaleOf (a .numbers)) x (a .level) (a .partition) (a .subdivision) half (c .before .arena-of .ensures) p
 
 returns : tie.Need-returns
 returns c =
-    let a = c .before .before .before .before .before .before .before .before .args in
+    let a = c .before .before .before .before .before .before .before .before .before .args in
     let x = index (a .directory .now) (a .originals .now) (a .replicas .now) in
-    let s = scaleOf (a .numbers) in
-    let p = c .before .before .before .before .run-place .ensures in
-    let half = c .before .before .half-of .ensures ∙ ap halfOf (c .before .before .before .numbered .ensures) in
-    let place = c .before .before .before .before .run-place .result in
+    let p = c .before .before .before .before .before .run-place .ensures in
+    let half = c .before .before .before .half-of .ensures ∙ ap halfOf (c .before .before .before .before .numbered .ensures) in
+    let place = c .before .before .before .before .before .run-place .result in
     let words : place .from + place .length - place .from ≡ place .length = omega arith in
-    rw words at (c .part-of .ensures) ∙ part-is s x (a .level) (a .partition) (a .subdivision) _ half p
+    rw words (part-is (scaleOf (a .numbers)) x (a .level) (a .partition) (a .subdivision) half (c .before .before .arena-of .ensures) p)
 
 pub run-spec : {M : Type 1} → statement M
 run-spec =
@@ -59,6 +78,10 @@ run-spec =
     run-place-requires
     numbered-requires
     half-of-requires
+    arena-of-requires
     add-to
-    part-of-requires
+    mul-result
+    sub-result
+    part-result-start
+    part-result-end
     returns)

@@ -1,91 +1,57 @@
 -- The part of the arena that the look names, and what the cut leaves of it.
-use mathlib.Core.Path.{ap}
-use lib.ListN.{length}
-use Rattle.walk.specs.Part.{stretchWords}
+use mathlib.Core.Path.{_≡_, refl, ap, _∙_}
+use mathlib.Core.Bool.{true, false}
+use mathlib.Core.List.{List}
+use Prim.Native.Nat.{ℕ}
+use Rattle.plan.specs.declared.bounds.Bounds.{Bounds}
+use Rattle.plan.specs.declared.looks.Look.{Look}
+use Rattle.store.proofs.Parts.{part-words}
+use Rattle.store.specs.Parts.{arenaOf, partIn}
 use Rattle.walk.specs.Levels.{lookWords, partOf}
-use native.Mathlib.Omega.{arith}
+use Rattle.walk.specs.Cut.{cutOf}
 use borrow.Author.Needs.{needs}
 use Rattle.walk.proofs.look.part_of.Statement.{statement}
 use Rattle.walk.proofs.look.part_of.Tie as tie
 
-mul-a : tie.Need-mul-a
-mul-a c = search needs
-
-shared-slice-read-a : tie.Need-shared-slice-read-a
-shared-slice-read-a c = search needs
-
-cast-a : tie.Need-cast-a
-cast-a c = omega (arith, c .shared-slice-known4 .given (c .before .before .before .before .before .args .look .stretch .from))
-
-mul-b : tie.Need-mul-b
-mul-b c = search needs
-
-shared-slice-read-b : tie.Need-shared-slice-read-b
-shared-slice-read-b c = search needs
-
-cast-b : tie.Need-cast-b
-cast-b c = omega (arith, c .shared-slice-known5 .given (c .before .before .before .before .before .before .args .look .stretch .to))
-
 arena-of-requires : tie.Need-arena-of-requires
 arena-of-requires c κs = search needs
 
-mul-part : tie.Need-mul-part
-mul-part c =
-    let g = c .before .before .before .before .before .before .before .args in
-    let a = c .before .before .shared-slice-known4 .given (g .look .stretch .from) in
-    omega (arith, a, c .before .shared-slice-known5 .given (g .look .stretch .to))
+part-between-requires : tie.Need-part-between-requires
+part-between-requires c κs = search needs
 
-mul-part-2 : tie.Need-mul-part-2
-mul-part-2 c =
-    let g = c .before .before .before .before .before .before .before .args in
-    let a = c .before .before .shared-slice-known4 .given (g .look .stretch .from) in
-    omega (arith, a, c .before .shared-slice-known5 .given (g .look .stretch .to))
+-- the part is the look's
+seen : (s : tie.Start) {arena part : List ℕ} → arena ≡ arenaOf (s .args .look .half) (s .args .originals .now) (s .args .replicas .now)
+    → part ≡ partIn (s .args .directory .now) arena (s .args .look .stretch .from) (s .args .look .stretch .to)
+    → part ≡ lookWords (s .args .directory .now) (s .args .originals .now) (s .args .replicas .now) (s .args .look)
+unfolding lookWords
+seen s e f = f ∙ rw e (part-words _ _ _ _ (s .pre .there))
 
-mul-part-3 : tie.Need-mul-part-3
-mul-part-3 c =
-    let g = c .before .before .before .before .before .before .before .args in
-    let a = c .before .before .shared-slice-known4 .given (g .look .stretch .from) in
-    omega (arith, a, c .before .shared-slice-known5 .given (g .look .stretch .to))
+sure-part : (b : Bounds) (d o r : List ℕ) (l : Look) → l .stretch .sure ≡ true → lookWords d o r l ≡ partOf b d o r l
+unfolding partOf
+sure-part b d o r l e = rw e refl
 
-sub-part : tie.Need-sub-part
-sub-part c = search needs
-
-part-part-start : tie.Need-part-part-start
-part-part-start c = search needs
-
-part-part-end : tie.Need-part-part-end
-part-part-end c = omega (arith, c .before .before .before .before .before .before .before .pre .there .room, ap length (c .arena-of .ensures))
+cut-part : (b : Bounds) (d o r : List ℕ) (l : Look) → l .stretch .sure ≡ false → cutOf (l .order) b (lookWords d o r l) ≡ partOf b d o r l
+unfolding partOf
+cut-part b d o r l e = rw e refl
 
 returns : tie.Need-returns
-unfolding partOf lookWords stretchWords
-returns c = rw (c .if1 .taken, c .before .before .arena-of .ensures)
+returns c =
+    let s = c .before .before .before .before .before .before .before in
+    seen s (c .before .before .arena-of .ensures) (c .before .part-between .ensures)
+    ∙ sure-part (s .args .bounds) _ _ _ (s .args .look) (c .if1 .taken)
 
 cut-requires : tie.Need-cut-requires
-unfolding lookWords stretchWords
-cut-requires c κs = rw (c .before .before .arena-of .ensures)
-    (c .before .before .before .before .before .before .before .before .before .pre .ordered (c .if1 .left))
+cut-requires c κs =
+    let s = c .before .before .before .before .before .before .before in
+    rw (seen s (c .before .before .arena-of .ensures) (c .before .part-between .ensures)) (s .pre .ordered (c .if1 .left))
 
 returns-2 : tie.Need-returns-2
-unfolding partOf lookWords stretchWords
-returns-2 c = rw (c .before .if1 .left, c .cut .ensures, c .before .before .before .arena-of .ensures)
+returns-2 c =
+    let s = c .before .before .before .before .before .before .before .before in
+    let a = s .args in
+    c .cut .ensures
+    ∙ ap (cutOf (a .look .order) (a .bounds)) (seen s (c .before .before .before .arena-of .ensures) (c .before .before .part-between .ensures))
+    ∙ cut-part (a .bounds) _ _ _ (a .look) (c .before .if1 .left)
 
 pub part-of-spec : {M : Type 1} → statement M
-part-of-spec =
-    tie.close
-    (tie.spec
-    mul-a
-    shared-slice-read-a
-    cast-a
-    mul-b
-    shared-slice-read-b
-    cast-b
-    arena-of-requires
-    mul-part
-    mul-part-2
-    mul-part-3
-    sub-part
-    part-part-start
-    part-part-end
-    returns
-    cut-requires
-    returns-2)
+part-of-spec = tie.close (tie.spec arena-of-requires part-between-requires returns cut-requires returns-2)
