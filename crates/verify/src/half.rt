@@ -10,7 +10,7 @@ use ruler::Ruler;
 use ruler::power;
 use store::entry::precedes;
 use store::entry::trip_at;
-use store::part::part_between;
+use store::part::part_there;
 ghost use mathlib.Core.Path.{_≡_};
 ghost use mathlib.Core.Bool.{true};
 ghost use Prim.Native.Nat.{_+_, _*_, _^_, _<_, _≤_};
@@ -126,7 +126,7 @@ fn slot_at(ruler: Ruler, half: Half, dir: &[u32], arena: &[u32], k: usize) -> bo
     requires { ⌜ (k < 2 * partitions (scale ruler .m)) × PartThere (now dir) (now arena) k (k + 1) ⌝ }
     ensures { λ r. ⌜ r ≡ slotOk (scale ruler) half k (slotAt (now (dir .entry)) (now (arena .entry)) k) ⌝ }
 {
-    slot_ok(ruler, half, k, part_between(dir, arena, k, k + 1))
+    slot_ok(ruler, half, k, part_there(dir, arena, k, k + 1))
 }
 
 // Whether every slot of a half is.

@@ -6,7 +6,7 @@ use layout::Subdivision;
 use ruler::Cell;
 use ruler::Ruler;
 use store::entry::trip_at;
-use store::part::part_between;
+use store::part::part_there;
 use store::places::slot_number;
 use store::search::find_place;
 use trip::Trip;
@@ -74,7 +74,7 @@ fn slot_has(dir: &[u32], originals: &[u32], k: usize, t: Trip) -> bool
     requires { ⌜ InOrder (order OIn) noTrip (slotAt (now dir) (now originals) k) (length (slotAt (now dir) (now originals) k)) ⌝ }
     ensures { λ r. ⌜ r ≡ some (sameTrip t) (slotAt (now (dir .entry)) (now (originals .entry)) k) ⌝ }
 {
-    has_trip(part_between(dir, originals, k, k + 1), t)
+    has_trip(part_there(dir, originals, k, k + 1), t)
 }
 
 // Whether the original of a trip stands in its slot.

@@ -6,7 +6,7 @@ use plan::looks::Look;
 use plan::looks::ORIGINAL_LOOKS;
 use plan::stretches::Stretches;
 use store::part::arena_of;
-use store::part::part_between;
+use store::part::part_there;
 ghost use mathlib.Core.Path.{_≡_};
 ghost use Prim.Native.Nat.{_<_};
 ghost use lib.ListN.{length};
@@ -58,7 +58,7 @@ pub fn part_of<'a>(
     let half = look.half;
     let order = look.order;
     let arena = arena_of(half, originals, replicas);
-    let part = part_between(directory, arena, from, to);
+    let part = part_there(directory, arena, from, to);
     if stretch.sure {
         return part;
     }

@@ -13,10 +13,10 @@ shared-slice-read-first : tie.Need-shared-slice-read-first
 shared-slice-read-first c = search needs
 
 cast-first : tie.Need-cast-first
-cast-first c = omega (arith, c .shared-slice-known .given (c .before .args .from))
+cast-first c = omega (arith, c .shared-slice-known3 .given (c .before .before .before .args .from))
 
 mul-first-2 : tie.Need-mul-first-2
-mul-first-2 c = omega (arith, c .shared-slice-known .given (c .before .args .from))
+mul-first-2 c = omega (arith, c .shared-slice-known3 .given (c .before .before .before .args .from))
 
 mul-end : tie.Need-mul-end
 mul-end c = search needs
@@ -25,43 +25,30 @@ shared-slice-read-end : tie.Need-shared-slice-read-end
 shared-slice-read-end c = search needs
 
 cast-end : tie.Need-cast-end
-cast-end c = omega (arith, c .shared-slice-known2 .given (c .before .before .args .to))
+cast-end c = omega (arith, c .shared-slice-known4 .given (c .before .before .before .before .args .to))
 
 mul-end-2 : tie.Need-mul-end-2
-mul-end-2 c = omega (arith, c .shared-slice-known2 .given (c .before .before .args .to))
+mul-end-2 c = omega (arith, c .shared-slice-known4 .given (c .before .before .before .before .args .to))
 
-mul-result : tie.Need-mul-result
-mul-result c =
-    let a = c .before .before .before .args in
-    omega (arith, of-inside (a .dir .now) (a .arena .now) (a .from) (a .to) (c .if1 .taken))
-
-sub-result : tie.Need-sub-result
-sub-result c =
-    let a = c .before .before .before .args in
-    omega (arith, of-inside (a .dir .now) (a .arena .now) (a .from) (a .to) (c .if1 .taken))
-
-part-result-start : tie.Need-part-result-start
-part-result-start c =
-    let a = c .before .before .before .args in
-    omega (arith, of-inside (a .dir .now) (a .arena .now) (a .from) (a .to) (c .if1 .taken))
-
-part-result-end : tie.Need-part-result-end
-part-result-end c =
-    let a = c .before .before .before .args in
-    omega (arith, of-inside (a .dir .now) (a .arena .now) (a .from) (a .to) (c .if1 .taken))
+part-there-requires : tie.Need-part-there-requires
+part-there-requires c κs =
+    let g = c .before .before .before .before .before in
+    let a = g .args in
+    let in-arena = of-inside (a .dir .now) (a .arena .now) (a .from) (a .to) (c .if1 .taken) in
+    record { from-in = g .pre .0; to-in = g .pre .1; rises = omega (arith, in-arena); room = in-arena .1 }
 
 returns : tie.Need-returns
-unfolding partIn partWords
-returns c = rw (c .before .if1 .taken)
+unfolding partIn
+returns c = rw (c .before .if1 .taken) (c .part-there .ensures)
 
-sub-result-2 : tie.Need-sub-result-2
-sub-result-2 c = search needs
+sub-result : tie.Need-sub-result
+sub-result c = search needs
 
-part-result-start-2 : tie.Need-part-result-start-2
-part-result-start-2 c = search needs
+part-result-start : tie.Need-part-result-start
+part-result-start c = search needs
 
-part-result-end-2 : tie.Need-part-result-end-2
-part-result-end-2 c = search needs
+part-result-end : tie.Need-part-result-end
+part-result-end c = search needs
 
 returns-2 : tie.Need-returns-2
 unfolding partIn
@@ -79,12 +66,9 @@ part-between-spec =
     shared-slice-read-end
     cast-end
     mul-end-2
-    mul-result
+    part-there-requires
+    returns
     sub-result
     part-result-start
     part-result-end
-    returns
-    sub-result-2
-    part-result-start-2
-    part-result-end-2
     returns-2)

@@ -5,8 +5,7 @@ use mathlib.Core.List.{List}
 use Prim.Native.Nat.{ℕ}
 use Rattle.plan.specs.declared.bounds.Bounds.{Bounds}
 use Rattle.plan.specs.declared.looks.Look.{Look}
-use Rattle.store.proofs.Parts.{part-words}
-use Rattle.store.specs.Parts.{arenaOf, partIn}
+use Rattle.store.specs.Parts.{arenaOf, partWords}
 use Rattle.walk.specs.Levels.{lookWords, partOf}
 use Rattle.walk.specs.Cut.{cutOf}
 use borrow.Author.Needs.{needs}
@@ -16,15 +15,15 @@ use Rattle.walk.proofs.look.part_of.Tie as tie
 arena-of-requires : tie.Need-arena-of-requires
 arena-of-requires c κs = search needs
 
-part-between-requires : tie.Need-part-between-requires
-part-between-requires c κs = search needs
+part-there-requires : tie.Need-part-there-requires
+part-there-requires c κs = rw (c .arena-of .ensures) (c .before .before .before .before .before .pre .there)
 
 -- the part is the look's
 seen : (s : tie.Start) {arena part : List ℕ} → arena ≡ arenaOf (s .args .look .half) (s .args .originals .now) (s .args .replicas .now)
-    → part ≡ partIn (s .args .directory .now) arena (s .args .look .stretch .from) (s .args .look .stretch .to)
+    → part ≡ partWords (s .args .directory .now) arena (s .args .look .stretch .from) (s .args .look .stretch .to)
     → part ≡ lookWords (s .args .directory .now) (s .args .originals .now) (s .args .replicas .now) (s .args .look)
 unfolding lookWords
-seen s e f = f ∙ rw e (part-words _ _ _ _ (s .pre .there))
+seen s e f = f ∙ rw e refl
 
 sure-part : (b : Bounds) (d o r : List ℕ) (l : Look) → l .stretch .sure ≡ true → lookWords d o r l ≡ partOf b d o r l
 unfolding partOf
@@ -37,21 +36,21 @@ cut-part b d o r l e = rw e refl
 returns : tie.Need-returns
 returns c =
     let s = c .before .before .before .before .before .before .before in
-    seen s (c .before .before .arena-of .ensures) (c .before .part-between .ensures)
+    seen s (c .before .before .arena-of .ensures) (c .before .part-there .ensures)
     ∙ sure-part (s .args .bounds) _ _ _ (s .args .look) (c .if1 .taken)
 
 cut-requires : tie.Need-cut-requires
 cut-requires c κs =
     let s = c .before .before .before .before .before .before .before in
-    rw (seen s (c .before .before .arena-of .ensures) (c .before .part-between .ensures)) (s .pre .ordered (c .if1 .left))
+    rw (seen s (c .before .before .arena-of .ensures) (c .before .part-there .ensures)) (s .pre .ordered (c .if1 .left))
 
 returns-2 : tie.Need-returns-2
 returns-2 c =
     let s = c .before .before .before .before .before .before .before .before in
     let a = s .args in
     c .cut .ensures
-    ∙ ap (cutOf (a .look .order) (a .bounds)) (seen s (c .before .before .before .arena-of .ensures) (c .before .before .part-between .ensures))
+    ∙ ap (cutOf (a .look .order) (a .bounds)) (seen s (c .before .before .before .arena-of .ensures) (c .before .before .part-there .ensures))
     ∙ cut-part (a .bounds) _ _ _ (a .look) (c .before .if1 .left)
 
 pub part-of-spec : {M : Type 1} → statement M
-part-of-spec = tie.close (tie.spec arena-of-requires part-between-requires returns cut-requires returns-2)
+part-of-spec = tie.close (tie.spec arena-of-requires part-there-requires returns cut-requires returns-2)
