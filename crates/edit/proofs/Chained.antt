@@ -16,11 +16,11 @@ use Rattle.layout.specs.declared.Outcome.the-variants.{Accepted, Refused}
 use Rattle.layout.specs.Words.{entryWords, entries, Index, lengthsOf, layout}
 use Rattle.layout.specs.Refusals.{isAccepted, refuse, full, hasId, noRoom, rowTests, tableOf, addOutcome, removeOutcome, checkOutcome}
 use Rattle.layout.specs.Calls.{ifAccepted, after, leaving, addOf, removeOf, without}
-use Rattle.layout.specs.Walk.{slotsOfTrip}
+use Rattle.store.specs.TripWalk.{slotsOfTrip}
 use Rattle.layout.proofs.Links.{then-refused, is-accepted, row-then}
 use Rattle.layout.proofs.Tables.{RowOk, of-rowTests, to-rowTests}
 use Rattle.layout.proofs.Checked.{passed}
-use Rattle.layout.proofs.RoomAdded.{entries-added}
+use Rattle.store.proofs.TripWalkRoom.{entries-added}
 use Rattle.verify.specs.declared.Opened.{Opened}
 use Rattle.verify.specs.declared.Opened.the-variants.{Refused as Shuts}
 use Rattle.verify.specs.Opening.{openOf}

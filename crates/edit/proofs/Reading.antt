@@ -22,7 +22,7 @@ use Rattle.layout.specs.Calls.{index}
 use Rattle.layout.proofs.Rows.{words-length, rows-words, getD-rows}
 use Rattle.layout.proofs.Indexes.{Indexed, directoryHalf-length, table-of-layout}
 use Rattle.layout.proofs.Reading.{directory-are, originals-are, replicas-are, directory-long, originals-laid, replicas-laid}
-use Rattle.layout.proofs.RoomAdded.{entries-most}
+use Rattle.layout.proofs.MostEntries.{entries-most}
 use Rattle.store.specs.Halves.{total}
 use Rattle.store.specs.Ordered.{noTrip}
 use Rattle.store.proofs.Halves.{total-at, two-halves, first-lent, second-next, both-back}

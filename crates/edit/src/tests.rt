@@ -22,7 +22,7 @@ ghost use Rattle.layout.specs.declared.Outcome.{Outcome};
 ghost use Rattle.layout.specs.Words.{entryWords, rows};
 ghost use Rattle.layout.specs.Refusals.{partitionsHolding, rowTests, checkOutcome, addOutcome};
 ghost use Rattle.layout.specs.Calls.{index};
-ghost use Rattle.layout.specs.Walk.{slotsOfTrip};
+ghost use Rattle.store.specs.TripWalk.{slotsOfTrip};
 ghost use Rattle.store.specs.Passes.{mostEntries};
 ghost use Rattle.store.specs.Places.{mostSlots};
 ghost use Rattle.edit.specs.Search.{placeOfId};

@@ -24,13 +24,12 @@ use Rattle.layout.specs.Words.{entryWords, words, order, partitions, hal
 use Rattle.layout.specs.Refusals.{partitionsHolding, tableOf}
 use Rattle.layout.proofs.Partitions.{Fits}
 use Rattle.layout.proofs.RowOrder.{Distinct, slot-order, slot-sorted}
-use Rattle.layout.proofs.Slots.{of-slot, to-slot, slot-once}
+use Rattle.layout.proofs.Slots.{of-slot, to-slot, slot-once, inSlot}
 use Rattle.layout.proofs.Few.{never-eleven}
 use Rattle.layout.proofs.Rows.{words-length}
 use Rattle.layout.proofs.Tables.{Table}
 use Rattle.layout.proofs.Indexes.{Indexed, table-again, indexed}
 use Rattle.layout.proofs.Counted.{slots-sum}
-use Rattle.layout.proofs.Walk.{inSlot}
 
 -- how many slots a half has
 abbrev pub slotsOf : Scale → ℕ

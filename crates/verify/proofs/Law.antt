@@ -23,7 +23,7 @@ use Rattle.layout.specs.Calls.{index}
 use Rattle.layout.proofs.RulerCells.{fair-ruler, deep-ruler}
 use Rattle.layout.proofs.RowOrder.{slot-order}
 use Rattle.layout.proofs.Indexes.{of-isIndex, to-isIndex}
-use Rattle.layout.proofs.Walk.{inSlot}
+use Rattle.layout.proofs.Slots.{inSlot}
 use Rattle.layout.proofs.Local.{slotsOf, Standing, Proper, Laid, originalsHalf, replicasHalf, all-fit, originals-are, local-index, index-local}
 use Rattle.store.specs.Ids.{idsDiffer}
 use Rattle.store.proofs.Differing.{of-idsDiffer, to-idsDiffer}
