@@ -9,9 +9,9 @@ use plan::bounds::Bounds;
 use plan::bounds::bounds_of;
 use plan::range::Plan;
 use plan::range::plan_for;
-use plan::stretches::half_length;
 use ruler::Numbers;
 use ruler::Ruler;
+use store::half::trips_of;
 use trip::Asking;
 use trip::Question;
 use verify::Opened;
@@ -20,10 +20,9 @@ use walk::count::count_levels;
 use walk::list::list_levels;
 ghost use mathlib.Core.Path.{_≡_};
 ghost use mathlib.Core.Bool.{true};
-ghost use Prim.Native.Nat.{_≤_, _<_, _*_};
-ghost use lib.ListN.{length, getD};
-ghost use Rattle.ruler.specs.Ruler.{deepest, mostTrips, inBounds, scaleOf, scale};
-ghost use Rattle.layout.specs.Words.{partitions};
+ghost use Prim.Native.Nat.{_≤_};
+ghost use lib.ListN.{length};
+ghost use Rattle.ruler.specs.Ruler.{mostTrips, inBounds, scaleOf, scale};
 ghost use Rattle.layout.specs.Answers.{answer};
 ghost use Rattle.layout.specs.Refusals.{OnRuler, tableOf, isIndex, roomTest};
 ghost use Rattle.layout.specs.Calls.{index, asked, askOf};
@@ -35,15 +34,6 @@ ghost use Rattle.ask.specs.Chain.{listedOf, answerOf};
 pub struct Answered {
     pub outcome: Outcome,
     pub count: u32,
-}
-
-// The number of an index's trips: the last word of the originals' half.
-fn trips_of(m: u32, directory: &[u32]) -> usize
-    requires { ⌜ (m ≤ deepest) × (2 * partitions m < length (now directory)) ⌝ }
-    ensures { λ r. ⌜ r ≡ getD (now (directory .entry)) (2 * partitions m) 0 ⌝ }
-{
-    let last = half_length(m) - 1;
-    directory[last] as usize
 }
 
 // Whether the matches have room in an answer list. They are counted only where the index has more trips than the list has words.

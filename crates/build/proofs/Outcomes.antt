@@ -1,12 +1,9 @@
 -- The chain of a build's refusals, link by link, and what a build leaves.
 use mathlib.Core.Path.{_≡_, refl, sym, ap, ap₂, _∙_}
 use mathlib.Core.Bool.{true, false, true≢false}
-use mathlib.Core.List.{List, [], _++_, append-nil}
-use Prim.Native.Nat.{ℕ, _+_, _-_, _/_, _≤_}
-use native.Mathlib.Omega.{arith}
-use lib.ListN.{length, take, drop, length-append, length-drop, drop-of-length-le}
-use lib.Seq.{take-at, length-take-le}
-use borrow.Rule.Slice.PartMut.{putMid}
+use mathlib.Core.List.{List, [], _++_}
+use Prim.Native.Nat.{ℕ, _/_, _≤_}
+use lib.ListN.{length}
 use borrow.Author.Tests.{eq-eqb, ne-eqb}
 use Rattle.ruler.specs.declared.Ruler.{Ruler}
 use Rattle.ruler.specs.Ruler.{Scale, mostTrips, inBounds, scale}
@@ -21,7 +18,6 @@ use Rattle.layout.specs.Calls.{ifAccepted, index, after, leaving, buildOf}
 use Rattle.layout.proofs.Rows.{length-rows}
 use Rattle.layout.proofs.Chains.{of-badSize}
 use Rattle.layout.proofs.Tables.{Table, of-firstBadRow, of-build}
-use Rattle.layout.proofs.Indexes.{halves-length}
 use Rattle.layout.proofs.Links.{andThen, then-refused, is-accepted, rows-then}
 use Rattle.build.specs.Laid.{Tested, Fillable}
 use Rattle.build.specs.Judged.{lengths}
@@ -128,31 +124,8 @@ module _ (r : Ruler) (table d o p : List ℕ) (good : inBounds (r .numbers) ≡ 
   tested-table : Tested r table
   tested-table = record { good = good; few = w .few; rowsOk = w .rowsOk }
 
-  pub half-is : length d / 2 ≡ halfLength (scale r .m)
-  half-is = omega (arith, w .directory, halves-length (scale r .m))
+  pub first-half : (long : ℕ) → long ≡ halfLength (scale r .m) → Fillable r table Originals long (length o)
+  first-half long e = record { tested = tested-table; whole = e; fits = w .room .for-originals }
 
-  pub twice : length d ≡ length d / 2 + length d / 2
-  twice = omega (arith, w .directory, halves-length (scale r .m))
-
-  pub first-half : (long : ℕ) → long ≡ length d / 2 → Fillable r table Originals long (length o)
-  first-half long e = record { tested = tested-table; whole = e ∙ half-is; fits = w .room .for-originals }
-
-  pub second-half : (long : ℕ) → long ≡ length d / 2 → Fillable r table Replicas long (length p)
-  second-half long e = record { tested = tested-table; whole = e ∙ half-is; fits = w .room .for-replicas }
-
--- ---- the two halves of the directory, lent one after the other
-
-module _ (d e₁ e₂ : List ℕ) (h : ℕ) (both : length d ≡ h + h) (first : length e₁ ≡ h) where
-  length-back : length (e₁ ++ drop (h - 0) d) ≡ length d
-  length-back = length-append e₁ (drop (h - 0) d) ∙ omega (arith, length-drop (h - 0) d)
-
-  pub both-back : putMid h (length (e₁ ++ drop (h - 0) d) - h) (e₁ ++ drop (h - 0) d) e₂ ≡ e₁ ++ e₂
-  both-back =
-      let D = e₁ ++ drop (h - 0) d in
-      let none-left : drop (length D - h) (drop h D) ≡ [] = drop-of-length-le (drop h D) {i = length D - h} (omega (arith, length-drop h D)) in
-      ap₂ (λ (x y : List ℕ). x ++ (e₂ ++ y)) (take-at e₁ (drop (h - 0) d) h first) none-left ∙ ap (λ (x : List ℕ). e₁ ++ x) (append-nil e₂)
-
-  pub length-second : length (take (length (e₁ ++ drop (h - 0) d) - h) (drop h (e₁ ++ drop (h - 0) d))) ≡ h
-  length-second =
-      let D = e₁ ++ drop (h - 0) d in
-      length-take-le (length D - h) (drop h D) (omega (arith, length-drop h D)) ∙ omega (arith, length-back)
+  pub second-half : (long : ℕ) → long ≡ halfLength (scale r .m) → Fillable r table Replicas long (length p)
+  second-half long e = record { tested = tested-table; whole = e; fits = w .room .for-replicas }

@@ -9,6 +9,7 @@ use layout::ENTRY_WORDS;
 use layout::Half;
 use layout::Outcome;
 use layout::Refusal;
+use layout::directory::half_length;
 use layout::is_accepted;
 use layout::refused;
 use ruler::Judged;
@@ -73,7 +74,8 @@ fn build_on(
     if !is_accepted(outcome) {
         return outcome;
     }
-    let half = directory.len() / 2;
+    let n = directory.len();
+    let half = half_length(ruler.bottom());
     fill(
         &mut directory[0..half],
         originals,
@@ -82,7 +84,7 @@ fn build_on(
         Half::Originals,
     );
     fill(
-        &mut directory[half..],
+        &mut directory[half..n],
         replicas,
         ruler,
         table,

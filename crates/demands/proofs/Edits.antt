@@ -16,7 +16,7 @@ use Rattle.layout.specs.Refusals.{rowTests, IndexOf}
 use Rattle.layout.specs.Calls.{After, after, ifAccepted, leaving, buildOf, addOf, without, removeOf}
 use Rattle.layout.proofs.Indexes.{given-fair}
 use Rattle.layout.proofs.Left.{Left, built-left, left-built, added-built, removed-built, added-left, removed-left, remove-accepted}
-use Rattle.layout.proofs.Freed.{add-next}
+use Rattle.store.proofs.RoomFreed.{add-next}
 use Rattle.demands.proofs.Refusals.{add-refused, remove-refused}
 use Rattle.demands.specs.History.{Edit, Addition, Removal, editOf, editedTable, wordsAfter, tableAfter}
 

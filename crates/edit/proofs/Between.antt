@@ -16,12 +16,13 @@ use Rattle.layout.specs.declared.Half.the-variants.{Originals, Replicas}
 use Rattle.layout.specs.Words.{entryWords, words, order, partitions, slot, entries, Index, lengthsOf, subdivisionAt}
 use Rattle.layout.specs.Words as laid
 use Rattle.layout.specs.Refusals.{tableOf}
-use Rattle.layout.specs.Walk.{slotsOfTrip}
+use Rattle.store.specs.TripWalk.{slotsOfTrip}
 use Rattle.layout.proofs.Rows.{words-length}
 use Rattle.layout.proofs.RowOrder.{Distinct, slot-sorted}
 use Rattle.layout.proofs.Chains.{Room}
 use Rattle.layout.proofs.Indexes.{Indexed}
-use Rattle.layout.proofs.Walk.{those, inSlot, walk-once, walk-below}
+use Rattle.store.proofs.TripWalk.{those, walk-once, walk-below}
+use Rattle.layout.proofs.Slots.{inSlot}
 use Rattle.store.specs.Slots.{Holds}
 use Rattle.store.specs.Parts.{arenaOf}
 use Rattle.store.specs.Ordered.{noTrip}

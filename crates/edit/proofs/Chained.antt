@@ -2,9 +2,9 @@
 use mathlib.Core.Path.{_≡_, refl, sym, ap, _∙_}
 use mathlib.Core.Bool.{Bool, true, false, not, _||_, true≢false}
 use mathlib.Core.List.{List, _∷_}
-use Prim.Native.Nat.{ℕ, _+_, _-_, _*_, _/_, _^_, _<_}
+use Prim.Native.Nat.{ℕ, _+_, _*_, _^_, _<_}
 use lib.Dec.{ltb, leb}
-use lib.ListN.{length, getD}
+use lib.ListN.{length}
 use Rattle.ruler.specs.declared.Numbers.{Numbers}
 use Rattle.ruler.specs.Ruler.{Scale, mostTrips, scaleOf}
 use Rattle.trip.specs.declared.Trip.{Trip}
@@ -13,14 +13,14 @@ use Rattle.layout.specs.declared.Refusal.{Refusal}
 use Rattle.layout.specs.declared.Refusal.the-variants.{TableSize, NoRoom, NoSuchId}
 use Rattle.layout.specs.declared.Outcome.{Outcome}
 use Rattle.layout.specs.declared.Outcome.the-variants.{Accepted, Refused}
-use Rattle.layout.specs.Words.{entryWords, Index, lengthsOf, layout}
+use Rattle.layout.specs.Words.{entryWords, entries, Index, lengthsOf, layout}
 use Rattle.layout.specs.Refusals.{isAccepted, refuse, full, hasId, noRoom, rowTests, tableOf, addOutcome, removeOutcome, checkOutcome}
 use Rattle.layout.specs.Calls.{ifAccepted, after, leaving, addOf, removeOf, without}
-use Rattle.layout.specs.Walk.{slotsOfTrip}
+use Rattle.store.specs.TripWalk.{slotsOfTrip}
 use Rattle.layout.proofs.Links.{then-refused, is-accepted, row-then}
 use Rattle.layout.proofs.Tables.{RowOk, of-rowTests, to-rowTests}
 use Rattle.layout.proofs.Checked.{passed}
-use Rattle.layout.proofs.RoomAdded.{entries-added}
+use Rattle.store.proofs.TripWalkRoom.{entries-added}
 use Rattle.verify.specs.declared.Opened.{Opened}
 use Rattle.verify.specs.declared.Opened.the-variants.{Refused as Shuts}
 use Rattle.verify.specs.Opening.{openOf}
@@ -52,17 +52,16 @@ module _ (s : Scale) (x : Index) (t : Trip) (good : checkOutcome s x ≡ Accepte
     add-row e = add-full false few ∙ row-then s (tableOf s x) t 0 _ ∙ then-refused (rowTests s (tableOf s x) t 0 Accepted) _ e
 
     module _ (row : RowOk s (tableOf s x) t) (inside : s .cell (t .end) < 2 ^ s .m) where
-      -- the row is taken, and the room decides; the directory has the counts
-      pub add-room : (a b : Bool)
-          → ltb (length (x .originals)) (entryWords * (getD (x .directory) (length (x .directory) / 2 - 1) 0 + length
-          (slotsOfTrip s Originals t))) ≡ a
-          → ltb (length (x .replicas)) (entryWords * (getD (x .directory) (length (x .directory) - 1) 0 + length (slotsOfTrip s Replicas t))) ≡ b
+      -- the row is taken, and the room decides, by as many trips and replicas as there are
+      pub add-room : {trips copies : ℕ} → (trips ≡ length (tableOf s x)) × (copies ≡ length (entries s Replicas (tableOf s x))) → (a b : Bool)
+          → ltb (length (x .originals)) (entryWords * (trips + length (slotsOfTrip s Originals t))) ≡ a
+          → ltb (length (x .replicas)) (entryWords * (copies + length (slotsOfTrip s Replicas t))) ≡ b
           → addOutcome s x t ≡ refuse (a || b) NoRoom 0 Accepted
       unfolding refuse noRoom lengthsOf
-      add-room a b p q =
+      add-room many a b p q =
           let o = entries-added s t inside Originals (tableOf s x)
-          ∙ ap (λ (n : ℕ). n + length (slotsOfTrip s Originals t)) (w .firsts ∙ sym (w .trips)) in
-          let r = entries-added s t inside Replicas (tableOf s x) ∙ ap (λ (n : ℕ). n + length (slotsOfTrip s Replicas t)) (sym (w .copies)) in
+          ∙ ap (λ (n : ℕ). n + length (slotsOfTrip s Originals t)) (w .firsts ∙ sym (many .0)) in
+          let r = entries-added s t inside Replicas (tableOf s x) ∙ ap (λ (n : ℕ). n + length (slotsOfTrip s Replicas t)) (sym (many .1)) in
           add-full false few ∙ to-rowTests s (tableOf s x) t 0 _ row ∙ rw (o, r, p, q)
 
 -- ---- a removal from words that are an index

@@ -13,13 +13,14 @@ use Rattle.layout.specs.declared.Half.{Half}
 use Rattle.layout.specs.Words.{words, partitions, slot, entriesBefore, entries, Index, lengthsOf, subdivisionAt}
 use Rattle.layout.specs.Words as laid
 use Rattle.layout.specs.Refusals.{tableOf}
-use Rattle.layout.specs.Walk.{slotsOfTrip}
+use Rattle.store.specs.TripWalk.{slotsOfTrip}
 use Rattle.layout.proofs.Rows.{words-le, words-add}
 use Rattle.layout.proofs.Edited.{Addable, of-add, added-table}
-use Rattle.layout.proofs.Walk.{those, inSlot}
+use Rattle.store.proofs.TripWalk.{those}
+use Rattle.layout.proofs.Slots.{inSlot}
 use Rattle.layout.proofs.RowOrder.{slot-sorted}
 use Rattle.layout.proofs.SlotEdits.{slot-gets, slot-same-added, slot-longer, slot-fresh}
-use Rattle.layout.proofs.RoomAdded.{entries-most}
+use Rattle.layout.proofs.MostEntries.{entries-most}
 use Rattle.store.specs.Slots.{flat, inserted, insertedIn, Holds}
 use Rattle.store.specs.Ordered.{preceding}
 use Rattle.store.proofs.Laid.{flat-upTo}

@@ -14,7 +14,8 @@ use Rattle.lists.specs.Lists.{consIf, keep, upTo}
 use Rattle.lists.proofs.Joined.{joined-le}
 use Rattle.lists.proofs.Upto.{upTo-ext}
 use Rattle.trip.specs.declared.Trip.{Trip}
-use Rattle.layout.proofs.Walk.{those, Below, none, also}
+use Rattle.store.proofs.TripWalk.{those}
+use Rattle.store.specs.TripWalk.{Below, none, also}
 use Rattle.store.specs.Slots.{flat}
 use Rattle.store.proofs.Laid.{flat-upTo, changed-slot}
 

@@ -3,7 +3,7 @@
 use mathlib.Core.Path.{_≡_}
 use mathlib.Core.Bool.{true}
 use mathlib.Core.List.{List, List·Memᴰ as Mem}
-use Prim.Native.Nat.{ℕ, _-_, _/_, _^_, _<_}
+use Prim.Native.Nat.{ℕ, _+_, _-_, _^_, _<_}
 use lib.ListN.{length}
 use borrow.Rule.Slice.PartMut.{putMid}
 use Rattle.lists.proofs.Tests.{to-T}
@@ -14,11 +14,13 @@ use Rattle.trip.specs.declared.Trip.{Trip}
 use Rattle.layout.specs.declared.Half.{Half}
 use Rattle.layout.specs.declared.Half.the-variants.{Originals, Replicas}
 use Rattle.layout.specs.declared.Outcome.the-variants.{Accepted}
-use Rattle.layout.specs.Words.{Index, lengthsOf, layout}
+use Rattle.layout.specs.Words.{halfLength, Index, lengthsOf, layout}
 use Rattle.layout.specs.Refusals.{tableOf, addOutcome, removeOutcome, Fits}
 use Rattle.layout.specs.Calls.{index}
 use Rattle.layout.proofs.Indexes.{Indexed}
+use Rattle.layout.proofs.Reading.{directory-long}
 use Rattle.layout.proofs.Edited.{of-add, of-remove}
+use Rattle.store.proofs.Halves.{two-halves}
 use Rattle.edit.specs.Halves.{HalfOf, Adding, Removing}
 use Rattle.edit.proofs.Reading.{firstHalf, firstBack, secondHalf, first-of, second-of, both-of}
 
@@ -52,15 +54,18 @@ removing r good x t a m =
       ready = λ half dir arena w. record { accepted = a; start-in = c .0; end-in = c .1; present = m; words-are = w };
     }
 
-module _ (s : Scale) (x : Index) (Asks : Half → (dir arena : List ℕ) → Type 0) (e : Edit s x Asks) where
-  pub first-lent : Asks Originals (firstHalf x) (x .originals)
-  first-lent = e .ready _ _ _ (first-of s x (e .is-index))
+module _ (s : Scale) (x : Index) (Asks : Half → (dir arena : List ℕ) → Type 0) (e : Edit s x Asks) {half : ℕ} (cut : half ≡ halfLength (s .m)) where
+  pub two-parts : length (x .directory) ≡ half + half
+  two-parts = two-halves (s .m) (directory-long s x (e .is-index)) cut
 
-  module _ {ts : List Trip} {f o : List ℕ} (done : Asks Originals (firstHalf x) (x .originals) → HalfOf s Originals ts x f o) where
-    pub second-lent : Asks Replicas (secondHalf x f) (x .replicas)
-    second-lent = e .ready _ _ _ (second-of s x (e .is-index) _ _ _ (done first-lent))
+  pub first-lent : Asks Originals (firstHalf half x) (x .originals)
+  first-lent = e .ready _ _ _ (first-of s x (e .is-index) cut)
 
-    pub both-back : {g r : List ℕ} → (Asks Replicas (secondHalf x f) (x .replicas) → HalfOf s Replicas ts x g r)
-        → index (putMid (length (x .directory) / 2) (length (x .directory) - length (x .directory) / 2) (firstBack x f) g) o r
+  module _ {ts : List Trip} {f o : List ℕ} (done : Asks Originals (firstHalf half x) (x .originals) → HalfOf s Originals ts x f o) where
+    pub second-lent : Asks Replicas (secondHalf half x f) (x .replicas)
+    second-lent = e .ready _ _ _ (second-of s x (e .is-index) cut _ _ _ (done first-lent))
+
+    pub both-back : {g r : List ℕ} → (Asks Replicas (secondHalf half x f) (x .replicas) → HalfOf s Replicas ts x g r)
+        → index (putMid half (length (x .directory) - half) (firstBack half x f) g) o r
         ≡ layout s ts (lengthsOf x)
-    both-back last = both-of s x (e .is-index) _ _ _ (done first-lent) _ _ (last second-lent)
+    both-back last = both-of s x (e .is-index) cut _ _ _ (done first-lent) _ _ (last second-lent)

@@ -1,14 +1,14 @@
 -- What the code reads of words that are an index: how many trips and replicas, the rows of the trips, and the halves of the directory.
 use mathlib.Core.Path.{_≡_, refl, sym, ap, ap₂, subst, _∙_}
 use mathlib.Core.Bool.{Bool, true, false, cond, _||_}
-use mathlib.Core.List.{List, [], _∷_, _++_, append-nil}
+use mathlib.Core.List.{List, [], _∷_, _++_}
 use Prim.Native.Nat.{ℕ, suc, _+_, _-_, _*_, _/_, _≤_, _<_}
 use native.Mathlib.Nat.{le-of-suc-le-suc, not-suc-le-zero}
 use native.Mathlib.Decide.{decLt}
 use native.Mathlib.Omega.{arith}
 use lib.Dec.{ltb, eqb}
-use lib.ListN.{length, getD, take, drop, replicate, drop-of-length-le}
-use lib.Seq.{take-at, drop-at, take-length, drop-length, drop-cons, drop-drop}
+use lib.ListN.{length, getD, take, drop, replicate}
+use lib.Seq.{take-at, drop-at, drop-length, drop-cons}
 use borrow.Rule.Slice.PartMut.{putMid}
 use borrow.Author.Tests.{eqb-true, lt-ltb, le-ltb}
 use Rattle.lists.specs.Lists.{padded}
@@ -22,8 +22,10 @@ use Rattle.layout.specs.Calls.{index}
 use Rattle.layout.proofs.Rows.{words-length, rows-words, getD-rows}
 use Rattle.layout.proofs.Indexes.{Indexed, directoryHalf-length, table-of-layout}
 use Rattle.layout.proofs.Reading.{directory-are, originals-are, replicas-are, directory-long, originals-laid, replicas-laid}
-use Rattle.layout.proofs.RoomAdded.{entries-most}
+use Rattle.layout.proofs.MostEntries.{entries-most}
+use Rattle.store.specs.Halves.{total}
 use Rattle.store.specs.Ordered.{noTrip}
+use Rattle.store.proofs.Halves.{total-at, two-halves, first-lent, second-next, both-back}
 use Rattle.edit.specs.Search.{placeOfId}
 use Rattle.edit.specs.Halves.{HalfOf}
 
@@ -85,93 +87,44 @@ search-end i k ts e w =
     let z : placeOfId i (drop k ts) ≡ 0 = rw (e, drop-length ts) in
     omega (arith, w, z)
 
--- ---- the halves of the directory
-
-half-of : (m n : ℕ) → n ≡ directoryLength m → (n / 2 ≡ halfLength m) × (n - n / 2 ≡ halfLength m)
-unfolding directoryLength halfLength
-half-of m n e = (omega arith, omega arith)
-
-module _ (s : Scale) (ts : List Trip) (n : ℕ) (e : n ≡ directoryLength (s .m)) where
-  first-half : List ℕ
-  first-half = directoryHalf s Originals ts
-
-  second-half : List ℕ
-  second-half = directoryHalf s Replicas ts
-
-  long-first : length first-half ≡ n / 2
-  unfolding first-half
-  long-first = directoryHalf-length s Originals ts ∙ sym (half-of (s .m) n e .0)
-
-  long-second : length second-half ≡ n - n / 2
-  unfolding second-half
-  long-second = directoryHalf-length s Replicas ts ∙ sym (half-of (s .m) n e .1)
-
-  -- `&directory[0..n / 2]`
-  pub take-first : (d : List ℕ) → d ≡ directoryHalf s Originals ts ++ directoryHalf s Replicas ts → take (n / 2 - 0) d ≡ directoryHalf s Originals ts
-  unfolding first-half second-half
-  take-first d q = let z : n / 2 - 0 ≡ n / 2 = omega arith in rw (z, q) (take-at first-half second-half (n / 2) long-first)
-
-  -- `&directory[n / 2..n]`, after the first half came back with other words, as many
-  pub take-second : (d f : List ℕ) → d ≡ directoryHalf s Originals ts ++ directoryHalf s Replicas ts → length f ≡ n / 2
-      → take (n - n / 2) (drop (n / 2) (f ++ drop (n / 2 - 0) (drop 0 d))) ≡ directoryHalf s Replicas ts
-  unfolding first-half second-half
-  take-second d f q l =
-      let z : n / 2 - 0 ≡ n / 2 = omega arith in
-      ap (take (n - n / 2)) (drop-at f _ (n / 2) l)
-      ∙ rw (z, q) (ap (take (n - n / 2)) (drop-at first-half second-half (n / 2) long-first)
-      ∙ ap (λ (k : ℕ). take k second-half) (sym long-second) ∙ take-length second-half)
-
-  -- both halves came back
-  pub put-both : (d f g : List ℕ) → length d ≡ n → length f ≡ n / 2 → putMid (n / 2) (n - n / 2) (f ++ drop (n / 2 - 0) (drop 0 d)) g ≡ f ++ g
-  put-both d f g k l =
-      let z : n / 2 - 0 ≡ n / 2 = omega arith in
-      let rest = drop (n / 2 - 0) d in
-      let a : take (n / 2) (f ++ rest) ≡ f = take-at f rest (n / 2) l in
-      let b : drop (n / 2) (f ++ rest) ≡ rest = drop-at f rest (n / 2) l in
-      let c : drop (n - n / 2) rest ≡ [] = past (n - n / 2) (n / 2 - 0) d (omega arith) in
-      ap₂ (λ (x y : List ℕ). x ++ (g ++ y)) a (ap (drop (n - n / 2)) b ∙ c) ∙ ap (λ (y : List ℕ). f ++ y) (append-nil g)
-    where
-      past : (i j : ℕ) (l : List ℕ) → length l ≤ j + i → drop i (drop j l) ≡ []
-      past i j l h = drop-drop i j l ∙ drop-of-length-le l h
-
 -- ---- what an index shows
 
 pub record Shown (s : Scale) (x : Index) : Type 0 where
   pub size : length (x .directory) ≡ directoryLength (s .m)
-  pub trips : getD (x .directory) (length (x .directory) / 2 - 1) 0 ≡ length (tableOf s x)
-  pub copies : getD (x .directory) (length (x .directory) - 1) 0 ≡ length (entries s Replicas (tableOf s x))
+  pub trips : getD (x .directory) (2 * partitions (s .m)) 0 ≡ length (tableOf s x)
+  pub copies : total (x .directory) ≡ length (entries s Replicas (tableOf s x))
   pub firsts : length (entries s Originals (tableOf s x)) ≡ length (tableOf s x)
   pub inside : entryWords * length (tableOf s x) ≤ length (x .originals)
   pub listed : rows (take (entryWords * length (tableOf s x) - 0) (x .originals)) ≡ tableOf s x
   pub few : length (tableOf s x) ≤ mostTrips
   pub few-copies : length (entries s Replicas (tableOf s x)) ≤ mostTrips * mostPartitions
 
--- the directory's first half as it is lent; the directory with f come back for it; and then its second half
-abbrev pub firstHalf : Index → List ℕ
-firstHalf x = take (length (x .directory) / 2 - 0) (x .directory)
+-- the directory's first half as it is lent, of `half` words; the directory with f come back for it; and then its second half
+abbrev pub firstHalf : (half : ℕ) → Index → List ℕ
+firstHalf half x = take (half - 0) (x .directory)
 
-abbrev pub firstBack : Index → (f : List ℕ) → List ℕ
-firstBack x f = f ++ drop (length (x .directory) / 2 - 0) (drop 0 (x .directory))
+abbrev pub firstBack : (half : ℕ) → Index → (f : List ℕ) → List ℕ
+firstBack half x f = f ++ drop (half - 0) (drop 0 (x .directory))
 
-abbrev pub secondHalf : Index → (f : List ℕ) → List ℕ
-secondHalf x f = take (length (x .directory) - length (x .directory) / 2) (drop (length (x .directory) / 2) (firstBack x f))
+abbrev pub secondHalf : (half : ℕ) → Index → (f : List ℕ) → List ℕ
+secondHalf half x f = take (length (x .directory) - half) (drop half (firstBack half x f))
 
 module _ (s : Scale) (x : Index) (h : Indexed s x) where
   -- the table is read off its own originals
   itself : tableOf s x ≡ entries s Originals (tableOf s x)
   itself = ap (tableOf s) (h .words-are) ∙ table-of-layout s (tableOf s x) (lengthsOf x)
 
-  many : getD (x .directory) (length (x .directory) / 2 - 1) 0 ≡ length (tableOf s x)
-  unfolding directoryLength entries
+  many : getD (x .directory) (2 * partitions (s .m)) 0 ≡ length (tableOf s x)
+  unfolding entries
   many =
-      let at : length (x .directory) / 2 - 1 ≡ 0 + 2 * partitions (s .m) = omega (arith, directory-long s x h) in
-      rw at (originals-laid s x h .word (2 * partitions (s .m)) (omega arith)) ∙ ap length (sym itself)
+      let at : 2 * partitions (s .m) ≡ 0 + 2 * partitions (s .m) = omega arith in
+      ap (λ (k : ℕ). getD (x .directory) k 0) at ∙ originals-laid s x h .word (2 * partitions (s .m)) (omega arith) ∙ ap length (sym itself)
 
-  replicated : getD (x .directory) (length (x .directory) - 1) 0 ≡ length (entries s Replicas (tableOf s x))
+  replicated : total (x .directory) ≡ length (entries s Replicas (tableOf s x))
   unfolding directoryLength halfLength entries
   replicated =
-      let at : length (x .directory) - 1 ≡ halfLength (s .m) + 2 * partitions (s .m) = omega (arith, directory-long s x h) in
-      rw at (replicas-laid s x h .word (2 * partitions (s .m)) (omega arith))
+      total-at (x .directory) (halfLength (s .m) + 2 * partitions (s .m)) (omega (arith, directory-long s x h))
+      ∙ replicas-laid s x h .word (2 * partitions (s .m)) (omega arith)
 
   front : rows (take (entryWords * length (tableOf s x) - 0) (x .originals)) ≡ tableOf s x
   unfolding laid.arena padded
@@ -201,32 +154,38 @@ module _ (s : Scale) (x : Index) (h : Indexed s x) where
 
   -- ---- its halves, as an edit lends them
 
-  pub first-of : HalfOf s Originals (tableOf s x) x (firstHalf x) (x .originals)
-  first-of = record {
-    directory-is = take-first s (tableOf s x) (length (x .directory)) (directory-long s x h)
-        (x .directory) (directory-are s x h);
-    arena-is = originals-are s x h;
-  }
+  module _ {half : ℕ} (cut : half ≡ halfLength (s .m)) where
+    both : length (x .directory) ≡ half + half
+    both = two-halves (s .m) (directory-long s x h) cut
 
-  module _ (ts : List Trip) (f o : List ℕ) (w : HalfOf s Originals ts x f o) where
-    long-f : length f ≡ length (x .directory) / 2
-    unfolding first-half
-    long-f = ap length (w .directory-is) ∙ long-first s ts (length (x .directory)) (directory-long s x h)
+    -- the two halves are the first words and the rest
+    long-first : (ts : List Trip) → length (directoryHalf s Originals ts) ≡ half
+    long-first ts = directoryHalf-length s Originals ts ∙ sym cut
 
-    pub second-of : HalfOf s Replicas (tableOf s x) x (secondHalf x f) (x .replicas)
-    second-of = record {
-      directory-is = take-second s (tableOf s x) (length (x .directory)) (directory-long s x h) (x .directory) f (directory-are s x h) long-f;
-      arena-is = replicas-are s x h;
+    pub first-of : HalfOf s Originals (tableOf s x) x (firstHalf half x) (x .originals)
+    first-of = record {
+      directory-is = first-lent (x .directory) half (length (x .directory)) both refl ∙ ap (take half) (directory-are s x h)
+          ∙ take-at (directoryHalf s Originals (tableOf s x)) (directoryHalf s Replicas (tableOf s x)) half (long-first (tableOf s x));
+      arena-is = originals-are s x h;
     }
 
-    -- both halves back are the whole index of the trips
-    pub both-of : (g r : List ℕ) → HalfOf s Replicas ts x g r
-        → index (putMid (length (x .directory) / 2) (length (x .directory) - length (x .directory) / 2) (firstBack x f) g) o r
-        ≡ layout s ts (lengthsOf x)
-    unfolding layout lengthsOf
-    both-of g r v =
-        let d = put-both s ts (length (x .directory)) (directory-long s x h) (x .directory) f g refl long-f
-        ∙ ap₂ _++_ (w .directory-is) (v .directory-is) in
-        let a = w .arena-is in
-        let b = v .arena-is in
-        λ i. record { directory = d i; originals = a i; replicas = b i }
+    module _ (ts : List Trip) (f o : List ℕ) (w : HalfOf s Originals ts x f o) where
+      long-f : length f ≡ half
+      long-f = ap length (w .directory-is) ∙ long-first ts
+
+      pub second-of : HalfOf s Replicas (tableOf s x) x (secondHalf half x f) (x .replicas)
+      second-of = record {
+        directory-is = second-next (x .directory) half (length (x .directory)) both refl f long-f ∙ ap (drop half) (directory-are s x h)
+            ∙ drop-at (directoryHalf s Originals (tableOf s x)) (directoryHalf s Replicas (tableOf s x)) half (long-first (tableOf s x));
+        arena-is = replicas-are s x h;
+      }
+
+      -- both halves back are the whole index of the trips
+      pub both-of : (g r : List ℕ) → HalfOf s Replicas ts x g r
+          → index (putMid half (length (x .directory) - half) (firstBack half x f) g) o r ≡ layout s ts (lengthsOf x)
+      unfolding layout lengthsOf
+      both-of g r v =
+          let d = both-back (x .directory) half (length (x .directory)) both refl f long-f g ∙ ap₂ _++_ (w .directory-is) (v .directory-is) in
+          let a = w .arena-is in
+          let b = v .arena-is in
+          λ i. record { directory = d i; originals = a i; replicas = b i }

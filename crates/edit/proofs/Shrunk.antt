@@ -10,10 +10,10 @@ use Rattle.layout.specs.Words.{slot, Index, subdivisionAt}
 use Rattle.layout.specs.Words as laid
 use Rattle.layout.specs.Refusals.{tableOf}
 use Rattle.layout.specs.Calls.{without}
-use Rattle.layout.specs.Walk.{slotsOfTrip}
+use Rattle.store.specs.TripWalk.{slotsOfTrip}
 use Rattle.layout.proofs.RowOrder.{Distinct, slot-sorted, slot-distinct}
 use Rattle.layout.proofs.Edited.{Removable, of-remove}
-use Rattle.layout.proofs.Walk.{those}
+use Rattle.store.proofs.TripWalk.{those}
 use Rattle.layout.proofs.SlotEdits.{slot-without, slot-has, slot-same-removed}
 use Rattle.store.specs.Slots.{removed, removedIn, Holds}
 use Rattle.store.specs.Ordered.{preceding}

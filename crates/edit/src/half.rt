@@ -11,7 +11,7 @@ ghost use Rattle.ruler.specs.Ruler.{Scale, inBounds, scale};
 ghost use Rattle.layout.specs.Words.{Index};
 ghost use Rattle.layout.specs.Refusals.{tableOf};
 ghost use Rattle.layout.specs.Calls.{without};
-ghost use Rattle.layout.specs.Walk.{slotsOfTrip};
+ghost use Rattle.store.specs.TripWalk.{slotsOfTrip};
 ghost use Rattle.edit.specs.Halves.{HalfOf, Adding, Removing};
 
 // Puts a trip into each of its slots.

@@ -4,11 +4,13 @@ use layout::ENTRY_WORDS;
 use layout::Half;
 use layout::Outcome;
 use layout::Refusal;
+use layout::directory::half_length;
 use layout::is_accepted;
 use layout::refused;
 use ruler::Numbers;
 use ruler::Ruler;
 use store::entry;
+use store::half::trips_of;
 use trip::Trip;
 use verify::Opened;
 use verify::open;
@@ -35,7 +37,7 @@ fn put_in(ruler: Ruler, directory: &mut [u32], originals: &mut [u32], replicas: 
         (lengthsOf (index (now (directory .entry)) (now (originals .entry)) (now (replicas .entry)))) ⌝ }
 {
     let n = directory.len();
-    let middle = n / 2;
+    let middle = half_length(ruler.bottom());
     half::add_half(
         ruler,
         Half::Originals,
@@ -70,7 +72,7 @@ fn take_out(
         (lengthsOf (index (now (directory .entry)) (now (originals .entry)) (now (replicas .entry)))) ⌝ }
 {
     let n = directory.len();
-    let middle = n / 2;
+    let middle = half_length(ruler.bottom());
     half::remove_half(
         ruler,
         Half::Originals,
@@ -123,8 +125,7 @@ fn remove_checked(
         ⌜ after r (index (now (directory .exit)) (now (originals .exit)) (now (replicas .exit)))
         ≡ removeOf (scale ruler) (index (now (directory .entry)) (now (originals .entry)) (now (replicas .entry))) id ⌝ }
 {
-    let middle = directory.len() / 2;
-    let trips = directory[middle - 1] as usize;
+    let trips = trips_of(ruler.bottom(), directory);
     let used = ENTRY_WORDS * trips;
     let place = tests::find_id(&originals[0..used], id);
     if trips <= place {

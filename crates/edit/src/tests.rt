@@ -8,6 +8,8 @@ use layout::is_accepted;
 use layout::refused;
 use layout::time_outcome;
 use ruler::Ruler;
+use store::half::entries_of;
+use store::half::trips_of;
 use store::places;
 use trip::Trip;
 ghost use mathlib.Core.Path.{_≡_};
@@ -20,7 +22,7 @@ ghost use Rattle.layout.specs.declared.Outcome.{Outcome};
 ghost use Rattle.layout.specs.Words.{entryWords, rows};
 ghost use Rattle.layout.specs.Refusals.{partitionsHolding, rowTests, checkOutcome, addOutcome};
 ghost use Rattle.layout.specs.Calls.{index};
-ghost use Rattle.layout.specs.Walk.{slotsOfTrip};
+ghost use Rattle.store.specs.TripWalk.{slotsOfTrip};
 ghost use Rattle.store.specs.Passes.{mostEntries};
 ghost use Rattle.store.specs.Places.{mostSlots};
 ghost use Rattle.edit.specs.Search.{placeOfId};
@@ -100,10 +102,8 @@ pub fn add_outcome(
     requires { ⌜ checkOutcome (scale ruler) (index (now directory) (now originals) (now replicas)) ≡ Outcome.Accepted ⌝ }
     ensures { λ r. ⌜ r ≡ addOutcome (scale ruler) (index (now (directory .entry)) (now (originals .entry)) (now (replicas .entry))) t ⌝ }
 {
-    let n = directory.len();
-    let half = n / 2;
-    let trips = directory[half - 1] as usize;
-    let copies = directory[n - 1] as usize;
+    let trips = trips_of(ruler.bottom(), directory);
+    let copies = entries_of(directory);
     if Ruler::MOST_TRIPS <= trips {
         return refused(Refusal::TableSize, 0);
     }

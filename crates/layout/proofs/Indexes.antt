@@ -21,6 +21,7 @@ use Rattle.layout.specs.declared.Half.{Half}
 use Rattle.layout.specs.declared.Half.the-variants.{Originals, Replicas}
 use Rattle.layout.specs.Words.{words, rows, partitions, halfLength, directoryLength, entriesBefore, entries, directoryHalf, arena, Index, Lengths, lengthsOf, layout}
 use Rattle.layout.specs.Refusals.{isAccepted, buildOutcome, IndexOf, IndexOfSome, tableOf, sameIndex, gives, isIndex}
+use Rattle.layout.proofs.Numbers.{halves-length}
 use Rattle.layout.proofs.RowOrder.{Distinct, layout-same, entries-same, length-same}
 use Rattle.layout.proofs.Slots.{of-originals, to-originals, originals-distinct}
 use Rattle.layout.proofs.Rows.{rows-words, rows-front, words-length}
@@ -32,10 +33,6 @@ use Rattle.layout.proofs.Tables.{Table, of-build, to-build}
 pub directoryHalf-length : (s : Scale) (h : Half) (ts : List Trip) → length (directoryHalf s h ts) ≡ halfLength (s .m)
 unfolding directoryHalf
 directoryHalf-length s h ts = length-upTo _ (halfLength (s .m))
-
-pub halves-length : (m : ℕ) → halfLength m + halfLength m ≡ directoryLength m
-unfolding halfLength directoryLength
-halves-length m = omega arith
 
 -- a layout has the lengths asked for, where its entries have room and the directory's length is the ruler's
 pub layout-lengths : (s : Scale) (ts : List Trip) (n : Lengths) → n .directory ≡ directoryLength (s .m) → Room s ts n → lengthsOf (layout s ts n) ≡ n

@@ -5,7 +5,6 @@ pub mod Partitions
 pub mod Numbers
 pub mod Few
 pub mod ByLevel
-pub mod LevelWalk
 pub mod RulerCells
 -- words, rows and slots
 pub mod Rows
@@ -16,9 +15,6 @@ pub mod Keys
 pub mod RowOrder
 pub mod Slots
 pub mod Apart
-pub mod Lent
--- the walk of a trip's slots
-pub mod Walk
 pub mod Counted
 pub mod Reported
 -- refusals, tables and indexes
@@ -36,11 +32,10 @@ pub mod Viewed
 -- edits
 pub mod Edits
 pub mod SlotEdits
-pub mod RoomAdded
+pub mod MostEntries
 pub mod Edited
 pub mod Given
 pub mod Left
-pub mod Freed
 pub mod Reordered
 -- document 01's examples
 pub mod Starred

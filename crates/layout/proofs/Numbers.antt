@@ -1,4 +1,4 @@
--- Partition numbers, for any m: a number below P names one partition of one level, and back.
+-- Partition numbers, for any m: a number below P names one partition of one level, and back. The words of a directory.
 use mathlib.Core.Path.{_≡_, refl}
 use mathlib.Core.Bool.{Bool, true, false}
 use Prim.Native.Nat.{ℕ, zero, suc, _+_, _-_, _^_, _≤_, _<_}
@@ -9,7 +9,8 @@ use native.Mathlib.Decide.{decLt}
 use lib.Dec.{leb}
 use lib.Pow.{pow-pos, pow-mono}
 use borrow.Author.Tests.{le-leb, lt-leb, leb-true, leb-false}
-use Rattle.layout.specs.Words.{partitions, partitionNumber, levelOf, placeOf}
+use Rattle.ruler.specs.Ruler.{deepest}
+use Rattle.layout.specs.Words.{partitions, halfLength, directoryLength, partitionNumber, levelOf, placeOf}
 
 pub level-number : (m L i : ℕ) → L ≤ m → i < 2 ^ L → levelOf m (partitionNumber L i) ≡ L
 unfolding levelOf partitionNumber
@@ -65,3 +66,13 @@ number-place m p h = let n = numbered m p h in omega arith
 pub number-lt : (m L i : ℕ) → L ≤ m → i < 2 ^ L → partitionNumber L i < partitions m
 unfolding partitionNumber partitions
 number-lt m L i h l = omega (arith, pow-mono h, double m, pow-pos L)
+
+-- ---- the words of a directory: both halves have as many, and they are few
+
+pub halves-length : (m : ℕ) → halfLength m + halfLength m ≡ directoryLength m
+unfolding halfLength directoryLength
+halves-length m = omega arith
+
+pub half-small : (m : ℕ) → m ≤ deepest → halfLength m < 2 ^ (deepest + 2)
+unfolding halfLength partitions
+half-small m h = rw (add-one m) (omega (arith, pow-mono h, two-pow-succ m, pow-pos m))

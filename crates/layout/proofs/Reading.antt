@@ -103,14 +103,6 @@ module _ {s : Scale} {h : Half} {ts : List Trip} {d : List ℕ} {base : ℕ} {l 
     pub next-word : getD d (base + k + 1) 0 ≡ getD d (base + k) 0 + length (slot s h ts k)
     next-word = rw (next, w .word (k + 1) (omega arith), w .word k (omega arith)) (before-more s h ts k)
 
-    pub slot-room : entryWords * getD d (base + k + 1) 0 ≤ length l
-    slot-room = rw next (slots-room k 1 (omega arith))
-
-    pub slot-part : take (entryWords * getD d (base + k + 1) 0 - entryWords * getD d (base + k) 0) (drop (entryWords * getD d (base + k) 0) l)
-        ≡ words (slot s h ts k)
-    unfolding joined
-    slot-part = let none : k + 0 ≡ k = omega arith in rw next (rw none at (slots-part k 1 (omega arith)))
-
 -- ---- an index
 
 module _ (s : Scale) (x : Index) (w : Indexed s x) where

@@ -15,11 +15,15 @@ use Rattle.layout.specs.declared.Half.{Half}
 use Rattle.layout.specs.declared.Half.the-variants.{Originals}
 use Rattle.layout.specs.declared.Subdivision.{Subdivision}
 use Rattle.layout.specs.Stored.{holdsTrip, isOriginal, isIn, subdivisionOf, isOf, belongs}
-use Rattle.layout.specs.Words.{order, partitions, partitionNumber, levelOf, placeOf, slotTrips, slot, entriesBefore, entries}
+use Rattle.layout.specs.Words.{order, partitions, partitionNumber, levelOf, placeOf, slotTrips, slot, subdivisionAt, entriesBefore, entries}
 use Rattle.layout.specs.Refusals.{Fits}
 use Rattle.layout.proofs.Partitions.{one-original}
 use Rattle.layout.proofs.Numbers.{level-number, place-number, numbered, number-place, number-lt}
 use Rattle.layout.proofs.RowOrder.{Distinct}
+
+-- the trip has an entry in slot k of the half
+abbrev pub inSlot : Scale → Half → (k : ℕ) → Trip → Bool
+inSlot s h k t = belongs s (subdivisionAt h k) (levelOf (s .m) (k / 2)) (placeOf (s .m) (k / 2)) t
 
 -- the members of a slot
 pub of-slot : (s : Scale) (h : Half) (ts : List Trip) (k : ℕ) (t : Trip) → Mem t (slot s h ts k)

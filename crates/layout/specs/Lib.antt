@@ -1,7 +1,6 @@
 -- Document 01 as definitions, in its order.
 pub mod Stored
 pub mod Words
-pub mod Walk
 pub mod Answers
 pub mod Refusals
 pub mod Calls

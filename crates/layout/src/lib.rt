@@ -1,4 +1,6 @@
 // What the index is: its halves and subdivisions, the words of an entry, and what a call may answer.
+pub mod directory;
+
 use ruler::Ruler;
 use ruler::Time;
 ghost use mathlib.Core.Path.{_≡_};

@@ -1,7 +1,5 @@
 -- The cells of a plan at a level, and how small the numbers of their slots are.
-use Prim.Native.Nat.{ℕ, _+_, _^_, _≤_, _<_}
-use native.Mathlib.Nat.{two-pow-succ}
-use native.Mathlib.Numerals.{add-one}
+use Prim.Native.Nat.{ℕ, _^_, _≤_, _<_}
 use native.Mathlib.Omega.{arith}
 use lib.Pow.{pow-pos, pow-mono}
 use Rattle.ruler.specs.Ruler.{deepest, cellUp}
@@ -40,7 +38,3 @@ module _ (p : Plan) (r : Ranged (p .low .0) p) (L : ℕ) (deep : L ≤ p .low .0
 
   pub slots-in : (slotAt (p .low) L < halfLength deepest) × (slotAt (p .high) L < halfLength deepest)
   slots-in = (low-slot-in, high-slot-in)
-
-pub half-small : (m : ℕ) → m ≤ deepest → halfLength m < 2 ^ (deepest + 2)
-unfolding halfLength partitions
-half-small m h = rw (add-one m) (omega (arith, pow-mono h, two-pow-succ m, pow-pos m))

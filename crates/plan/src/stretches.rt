@@ -1,8 +1,8 @@
 // The stretches of the directory that a plan goes through at each level, and in which of them every entry is known to match.
 use crate::range::Kind;
 use crate::range::Plan;
+use layout::directory::half_length;
 use ruler::Cell;
-use ruler::power;
 ghost use mathlib.Core.Path.{_≡_};
 ghost use Prim.Native.Nat.{_^_, _<_, _≤_};
 ghost use Rattle.ruler.specs.Ruler.{deepest};
@@ -37,14 +37,6 @@ fn slot_at(cell: Cell, level: u32) -> usize
     ensures { λ r. ⌜ r ≡ slotAt cell level ⌝ }
 {
     2 * cell.at_level(level).rank() as usize
-}
-
-// Where the replicas' half of the directory begins.
-pub fn half_length(m: u32) -> usize
-    requires { ⌜ m ≤ deepest ⌝ }
-    ensures { λ r. ⌜ r ≡ halfLength m ⌝ }
-{
-    4 * power(m) as usize - 1
 }
 
 // Whether a trip in the first partition is known to end after the first cell: that cell is not the partition's last.

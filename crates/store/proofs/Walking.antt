@@ -14,8 +14,8 @@ use Rattle.ruler.specs.declared.Cell.{Cell}
 use Rattle.ruler.specs.Ruler.{deepest, nextCell, cellAbove}
 use Rattle.layout.specs.declared.Half.{Half}
 use Rattle.lists.specs.Lists.{over}
-use Rattle.layout.specs.Walk.{visit, walk, slotsOf}
-use Rattle.layout.proofs.Walk.{visit-few, walk-few, walk-ends, walk-none}
+use Rattle.store.specs.TripWalk.{visit, walk, slotsOf}
+use Rattle.store.proofs.TripWalk.{visit-few, walk-few, walk-ends, walk-none}
 use Rattle.store.specs.Places.{mostSlots, Level, Wrote, visitsAt}
 
 -- a run of stores at the front

@@ -8,7 +8,7 @@ use lib.Seq.{sets}
 use Rattle.ruler.specs.declared.Cell.{Cell}
 use Rattle.ruler.specs.Ruler.{deepest, parity, firstOfTwo}
 use Rattle.layout.specs.declared.Half.{Half}
-use Rattle.layout.specs.Walk.{visit}
+use Rattle.store.specs.TripWalk.{visit}
 
 -- two of each of the levels 0 to `deepest`
 abbrev pub mostSlots : ℕ

@@ -1,7 +1,7 @@
 // How many partitions hold a trip, and how many words a directory has.
+use layout::directory::half_length;
 use ruler::Cell;
 use ruler::Ruler;
-use ruler::power;
 use trip::Trip;
 ghost use mathlib.Core.Path.{_≡_};
 ghost use mathlib.Core.Bool.{true};
@@ -50,5 +50,5 @@ pub fn directory_length(m: u32) -> usize
     requires { ⌜ m ≤ deepest ⌝ }
     ensures { λ r. ⌜ r ≡ directoryLength m ⌝ }
 {
-    4 * (power(m + 1) as usize - 1) + 2
+    2 * half_length(m)
 }

@@ -4,6 +4,7 @@ pub mod directory;
 pub mod entry;
 pub mod filling;
 mod gap;
+pub mod half;
 pub mod ids;
 pub mod ordering;
 pub mod part;

@@ -9,7 +9,7 @@ ghost use Prim.Native.Nat.{_+_, _^_, _<_, _≤_};
 ghost use lib.ListN.{length};
 ghost use Rattle.ruler.specs.Ruler.{deepest, inBounds, scale};
 ghost use Rattle.layout.specs.Words.{slotNumber};
-ghost use Rattle.layout.specs.Walk.{inHalf, visit, slotsOf, slotsOfTrip};
+ghost use Rattle.store.specs.TripWalk.{inHalf, visit, slotsOf, slotsOfTrip};
 ghost use Rattle.lists.specs.Lists.{over};
 ghost use Rattle.store.specs.Places.{mostSlots, Level, Wrote, visitsAt};
 

@@ -19,9 +19,11 @@ use Rattle.layout.specs.Words.{entryWords, words, rows}
 use Rattle.layout.proofs.Rows.{rows-words, words-rows, words-append, words-length, words-le}
 use Rattle.layout.proofs.RowParts.{words-joined}
 use Rattle.layout.proofs.Local.{Laid, laid-room}
+use Rattle.store.specs.Halves.{total}
 use Rattle.store.specs.Parts.{partWords, PartThere}
+use Rattle.store.proofs.Halves.{total-at}
 use Rattle.verify.specs.Passing.{rising, blank}
-use Rattle.verify.specs.Local.{total, halfOk, slotAt, tripsOf}
+use Rattle.verify.specs.Local.{halfOk, slotAt, tripsOf}
 
 -- ---- the tests on words, as facts
 
@@ -62,10 +64,6 @@ at-rising : (dir : List ℕ) (n : ℕ) → length dir ≡ n + 1 → ((k : ℕ) �
 unfolding rising
 at-rising [] n l h = tt
 at-rising (d ∷ ds) n l h = to-rising d ds (λ k i. rw add-one at (h k (omega arith)))
-
-pub total-at : (dir : List ℕ) (n : ℕ) → length dir ≡ n + 1 → total dir ≡ getD dir n 0
-unfolding total
-total-at dir n l = let e : length dir - 1 ≡ n = omega arith in rw e
 
 pub of-half : (dir arena : List ℕ) (n : ℕ) → length dir ≡ n + 1 → T (halfOk dir arena) → Cut dir arena n
 unfolding halfOk

@@ -1,12 +1,12 @@
 -- The local tests pass exactly where the definition's test of an index does.
-use mathlib.Core.Path.{_≡_, sym, ap, _∙_}
+use mathlib.Core.Path.{_≡_, refl, sym, ap, _∙_}
 use mathlib.Core.Bool.{true, _&&_}
 use mathlib.Core.List.{List, List·Memᴰ as Mem}
-use Prim.Native.Nat.{ℕ, _+_, _-_, _*_, _/_, _≤_, _<_}
+use Prim.Native.Nat.{ℕ, _+_, _-_, _*_, _≤_, _<_}
 use native.Mathlib.Omega.{arith}
 use lib.Dec.{T, leb, eqb, leb→le, le→leb, eqb→eq, eqb-refl}
 use lib.ListN.{length, take, drop, length-drop}
-use lib.Seq.{length-take-le, take-all}
+use lib.Seq.{length-take-le}
 use Rattle.lists.specs.Lists.{joined, sumOver}
 use Rattle.lists.proofs.Tests.{of-and, to-and, to-T}
 use Rattle.lists.proofs.Members.{In, of-joined, to-joined}
@@ -25,16 +25,18 @@ use Rattle.layout.specs.Calls.{index}
 use Rattle.layout.proofs.RulerCells.{fair-ruler, deep-ruler}
 use Rattle.layout.proofs.RowOrder.{slot-order}
 use Rattle.layout.proofs.Indexes.{of-isIndex, to-isIndex}
-use Rattle.layout.proofs.Walk.{inSlot}
+use Rattle.layout.proofs.Slots.{inSlot}
 use Rattle.layout.proofs.Local.{slotsOf, Standing, Proper, Laid, originalsHalf, replicasHalf, all-fit, originals-are, local-index, index-local}
 use Rattle.layout.proofs.Chains.{of-onRuler, to-onRuler}
 use Rattle.store.specs.Ids.{idsDiffer}
 use Rattle.store.proofs.Differing.{of-idsDiffer, to-idsDiffer}
+use Rattle.store.specs.Halves.{total}
+use Rattle.store.proofs.Halves.{total-at, two-halves, first-lent, second-lent, first-long, second-long}
 use Rattle.verify.specs.Passing.{each, some}
-use Rattle.verify.specs.Local.{total, halfOk, slotAt, tripsOf, standsAt, slotOk, slotsOk, home, isKnown, countsTo, halvesOk, allSlotsOk, tripsOk, locally}
+use Rattle.verify.specs.Local.{halfOk, slotAt, tripsOf, standsAt, slotOk, slotsOk, home, isKnown, countsTo, halvesOk, allSlotsOk, tripsOk, locally}
 use Rattle.verify.proofs.Passing.{bool-ext, of-below, to-below, of-each, to-each, of-some, to-some, row-passes, row-sorted, to-row}
 use Rattle.verify.proofs.Home.{home-lt, home-slot}
-use Rattle.verify.proofs.Cut.{of-half, to-half, total-at, count-cut, cut-laid, trips-cut, laid-length, laid-cut, laid-at}
+use Rattle.verify.proofs.Cut.{of-half, to-half, count-cut, cut-laid, trips-cut, laid-length, laid-cut, laid-at}
 
 -- ---- one half
 
@@ -181,24 +183,18 @@ module _ (s : Scale) (fair : Fair s) (x : Index) (good : T (s .good)) (small : s
       let w = of-locally s fair o (x .originals) r (x .replicas) o-length r-length t in
       to-isIndex s x (local-index s fair x _ _ good small long (record { in-originals = w .0; in-replicas = w .1; proper = w .2 })))
 
--- the same of a ruler
-of-ruler : (r : Ruler) (d orig repl : List ℕ) → inBounds (r .numbers) ≡ true → length d ≡ directoryLength (scale r .m)
-    → isIndex (scale r) (index d orig repl)
-    ≡ locally (scale r) (take (2 * partitions (scale r .m) + 1) d) orig (drop (2 * partitions (scale r .m) + 1) d) repl
-unfolding originalsHalf replicasHalf halfLength
-of-ruler r d orig repl good long =
-    locally-index (scale r) (fair-ruler r good) (index d orig repl) (to-T (scale-good (r .numbers) ∙ good)) (deep-ruler r good) long
+-- the same of a ruler, for the two halves as the code lends them
+module _ (r : Ruler) (d : List ℕ) (good : inBounds (r .numbers) ≡ true) (long : length d ≡ directoryLength (scale r .m)) {h : ℕ}
+    (half : h ≡ halfLength (scale r .m)) where
+  both : length d ≡ h + h
+  both = two-halves (scale r .m) long half
 
--- and of the two parts of a directory, as the code cuts it
-pub two-parts : (r : Ruler) (d orig repl : List ℕ) → inBounds (r .numbers) ≡ true → length d ≡ directoryLength (scale r .m)
-    → isIndex (scale r) (index d orig repl)
-    ≡ locally (scale r) (take (length d / 2 - 0) d) orig (take (length d - length d / 2) (drop (length d / 2) d)) repl
-unfolding directoryLength
-two-parts r d orig repl good long =
-    let m = scale r .m in
-    let half : length d / 2 ≡ 2 * partitions m + 1 = omega arith in
-    let first : length d / 2 - 0 ≡ 2 * partitions m + 1 = omega arith in
-    let rest : take (length d - length d / 2) (drop (length d / 2) d) ≡ drop (2 * partitions m + 1) d =
-    take-all (length d - length d / 2) (drop (length d / 2) d) (rw length-drop (omega arith)) ∙ ap (λ (k : ℕ). drop k d) half
-    in
-    rw (rest, first) (of-ruler r d orig repl good long)
+  pub halves-long : (length (take (h - 0) d) ≡ halfLength (scale r .m)) × (length (take (length d - h) (drop h d)) ≡ halfLength (scale r .m))
+  halves-long = (first-long d h (length d) both refl ∙ half, second-long d h (length d) both refl ∙ half)
+
+  pub halves-index : (orig repl : List ℕ)
+      → isIndex (scale r) (index d orig repl) ≡ locally (scale r) (take (h - 0) d) orig (take (length d - h) (drop h d)) repl
+  unfolding originalsHalf replicasHalf
+  halves-index orig repl =
+      rw (first-lent d h (length d) both refl, second-lent d h (length d) both refl, half)
+      (locally-index (scale r) (fair-ruler r good) (index d orig repl) (to-T (scale-good (r .numbers) ∙ good)) (deep-ruler r good) long)

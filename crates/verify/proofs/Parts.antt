@@ -13,8 +13,9 @@ use Rattle.ruler.specs.Ruler.{Scale, mostTrips}
 use Rattle.layout.specs.declared.Half.the-variants.{Originals, Replicas}
 use Rattle.layout.specs.Words.{entryWords, rows, halfLength}
 use Rattle.layout.proofs.Rows.{whole}
+use Rattle.store.specs.Halves.{total}
 use Rattle.verify.specs.Passing.{rising, blank}
-use Rattle.verify.specs.Local.{total, halfOk, slotsOk, tripsOf, halvesOk, allSlotsOk}
+use Rattle.verify.specs.Local.{halfOk, slotsOk, tripsOf, halvesOk, allSlotsOk}
 
 pub of-halves : (o orig r repl : List ℕ) → halvesOk o orig r repl ≡ true → (halfOk o orig ≡ true) × (halfOk r repl ≡ true)
 unfolding halvesOk

@@ -14,15 +14,12 @@ use Rattle.layout.specs.declared.Subdivision.{Subdivision}
 use Rattle.layout.specs.Stored.{within, isIn, belongs, subdivisionOf}
 use Rattle.layout.specs.Words.{entryWords, rows, order, levelOf, placeOf, slotNumber}
 use Rattle.layout.specs.Refusals.{partitionsHolding, fits}
+use Rattle.store.specs.Halves.{total}
 use Rattle.store.specs.Parts.{partWords}
 use Rattle.store.specs.Ids.{idsDiffer}
 use Rattle.verify.specs.Passing.{below, each, some, inRow, rising, blank}
 
 -- ---- the words of one half
-
--- the last word of a half: as many entries as it has
-unfoldable pub total : (directory : List ℕ) → ℕ
-total dir = getD dir (length dir - 1) 0
 
 -- the counts start at 0, never fall and fit the arena, and the words after the last entry are 0
 unfoldable pub halfOk : (directory arena : List ℕ) → Bool

@@ -10,32 +10,17 @@ use ruler::Ruler;
 use ruler::power;
 use store::entry::precedes;
 use store::entry::trip_at;
+use store::half::words_of;
 use store::part::part_there;
 ghost use mathlib.Core.Path.{_≡_};
 ghost use mathlib.Core.Bool.{true};
 ghost use Prim.Native.Nat.{_+_, _*_, _^_, _<_, _≤_};
 ghost use lib.ListN.{length, getD, drop};
 ghost use Rattle.ruler.specs.Ruler.{inBounds, scale};
-ghost use Rattle.layout.specs.Words.{entryWords, rows, order, partitions, halfLength};
+ghost use Rattle.layout.specs.Words.{rows, order, partitions, halfLength};
 ghost use Rattle.store.specs.Parts.{PartThere};
 ghost use Rattle.verify.specs.Passing.{inRow, rising, blank};
-ghost use Rattle.verify.specs.Local.{total, halfOk, slotAt, standsAt, slotOk, slotsOk};
-
-// The last word of a half: as many entries as it has.
-pub fn entries_of(dir: &[u32]) -> usize
-    requires { ⌜ 0 < length (now dir) ⌝ }
-    ensures { λ r. ⌜ r ≡ total (now (dir .entry)) ⌝ }
-{
-    dir[dir.len() - 1] as usize
-}
-
-// The words that the entries of a half take.
-pub fn words_of(dir: &[u32]) -> usize
-    requires { ⌜ 0 < length (now dir) ⌝ }
-    ensures { λ r. ⌜ r ≡ entryWords * total (now (dir .entry)) ⌝ }
-{
-    ENTRY_WORDS * entries_of(dir)
-}
+ghost use Rattle.verify.specs.Local.{halfOk, slotAt, standsAt, slotOk, slotsOk};
 
 // Whether no word is below the one before it.
 fn rises(dir: &[u32]) -> bool

@@ -1,18 +1,19 @@
 // Whether words are the index of a table, by conditions on the words themselves: nothing is laid out anew.
 use counting::counts_to;
-use half::entries_of;
 use half::half_ok;
 use half::slots_ok;
-use half::words_of;
 use layout::Half;
 use layout::Outcome;
 use layout::Refusal;
+use layout::directory::half_length;
 use layout::refused;
 use origin::all_known;
 use ruler::Judged;
 use ruler::Numbers;
 use ruler::Ruler;
 use store::counting::directory_length;
+use store::half::entries_of;
+use store::half::words_of;
 use store::ids::ids_differ;
 ghost use mathlib.Core.Path.{_≡_};
 ghost use mathlib.Core.Bool.{true};
@@ -90,7 +91,7 @@ pub fn is_index(ruler: Ruler, directory: &[u32], originals: &[u32], replicas: &[
     ensures { λ r. ⌜ r ≡ isIndex (scale ruler) (index (now (directory .entry)) (now (originals .entry)) (now (replicas .entry))) ⌝ }
 {
     let n = directory.len();
-    let half = n / 2;
+    let half = half_length(ruler.bottom());
     locally(
         ruler,
         &directory[0..half],

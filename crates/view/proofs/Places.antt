@@ -5,21 +5,15 @@ use mathlib.Core.List.{List}
 use Prim.Native.Nat.{ℕ, zero, suc, _+_, _-_, _*_, _^_, _≤_, _<_}
 use native.Mathlib.Omega.{arith}
 use lib.ListN.{getD}
-use lib.Pow.{pow-pos, pow-mono}
-use Rattle.ruler.specs.Ruler.{deepest}
+use lib.Pow.{pow-pos}
 use Rattle.layout.specs.declared.Half.{Half}
 use Rattle.layout.specs.declared.Half.the-variants.{Originals, Replicas}
 use Rattle.layout.specs.declared.Subdivision.{Subdivision}
 use Rattle.layout.specs.declared.Subdivision.the-variants.{RAft}
-use Rattle.layout.specs.Words.{partitions, halfLength, directoryLength, slotNumber}
+use Rattle.layout.specs.Words.{halfLength, directoryLength, slotNumber}
 use Rattle.layout.specs.Answers.{halfOf, isAft, subdivisionNumbered}
 use Rattle.layout.proofs.Reading.{slot-inside, slots-apart}
 use Rattle.view.specs.Directory.{halfFrom, slotAt, everySecond, Rising, Halves}
-
--- a directory has few words
-pub few-words : (m : ℕ) → m ≤ deepest → directoryLength m < 2 ^ 13
-unfolding directoryLength partitions
-few-words m h = omega (arith, pow-mono {i = m + 1} {j = 11} (omega arith), pow-pos (m + 1))
 
 pub half-fits : (m : ℕ) (h : Half) → halfFrom m h + halfLength m ≤ directoryLength m
 unfolding halfFrom halfLength directoryLength

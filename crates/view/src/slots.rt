@@ -1,8 +1,8 @@
 // Where a slot's word stands in the directory.
 use layout::Half;
 use layout::Subdivision;
+use layout::directory::half_length;
 use ruler::Cell;
-use ruler::power;
 use store::places::slot_number;
 ghost use mathlib.Core.Path.{_≡_};
 ghost use Prim.Native.Nat.{_^_, _<_, _≤_};
@@ -51,7 +51,7 @@ fn half_from(m: u32, half: Half) -> usize
 {
     match half {
         Half::Originals => 0,
-        Half::Replicas => (2 * (power(m + 1) - 1) + 1) as usize,
+        Half::Replicas => half_length(m),
     }
 }
 

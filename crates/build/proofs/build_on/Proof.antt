@@ -1,12 +1,18 @@
 -- A refusal leaves the words; else each half is laid out in its part of the directory.
-use mathlib.Core.Path.{_≡_, sym, ap₂, _∙_}
-use Prim.Native.Nat.{_-_, _/_}
+use mathlib.Core.Path.{_≡_, refl, sym, ap, ap₂, _∙_}
+use mathlib.Core.Bool.{true}
 use mathlib.Core.List.{_++_}
+use Prim.Native.Nat.{_+_}
 use lib.ListN.{length}
-use lib.Seq.{length-take-le}
 use borrow.Author.Tests.{not-true, not-false}
 use Rattle.ruler.specs.Ruler.{scale}
-use Rattle.build.proofs.Outcomes.{left-old, left-new, accepted-table, twice, first-half, second-half, both-back, length-second}
+use Rattle.layout.specs.Words.{rows, halfLength}
+use Rattle.layout.specs.Refusals.{isAccepted}
+use Rattle.layout.proofs.RulerCells.{deep-ruler}
+use Rattle.layout.proofs.Tables.{Table}
+use Rattle.store.proofs.Halves.{two-halves, first-long, next-long, both-back}
+use Rattle.build.specs.Judged.{lengths}
+use Rattle.build.proofs.Outcomes.{left-old, left-new, accepted-table, first-half, second-half}
 use native.Mathlib.Omega.{arith}
 use borrow.Author.Needs.{needs}
 use Rattle.build.proofs.build_on.Statement.{statement}
@@ -22,8 +28,35 @@ returns : tie.Need-returns
 returns c =
     let a = c .before .before .before .before .before .before .before .args in
     left-old (scale (a .ruler)) (a .table .now) (a .directory .now) (a .originals .now) (a .replicas .now) (c .before .before .judged .result)
-    (c .before .before .judged .ensures)
-    (sym (c .before .is-accepted .ensures) ∙ not-true _ (c .if1 .taken))
+    (c .before .before .judged .ensures) (sym (c .before .is-accepted .ensures) ∙ not-true _ (c .if1 .taken))
+
+bottom-requires : tie.Need-bottom-requires
+bottom-requires c κs = search needs
+
+half-length-requires : tie.Need-half-length-requires
+half-length-requires c κs = let g = c .before .before .before .before .before .before .before .before in rw (c .bottom .ensures)
+    (deep-ruler (g .args .ruler) (g .pre))
+
+-- past the tests: the outcome is taken, so the rows are a table
+fine : (c : tie.Else1) → isAccepted (c .before .before .judged .result) ≡ true
+fine c = sym (c .before .is-accepted .ensures) ∙ not-false _ (c .if1 .left)
+
+a-table : (c : tie.Else1) → let a = c .before .before .before .before .before .before .before .args in
+    Table (scale (a .ruler)) (rows (a .table .now)) (lengths (length (a .directory .now)) (length (a .originals .now)) (length (a .replicas .now)))
+a-table c =
+    let a = c .before .before .before .before .before .before .before .args in
+    accepted-table (scale (a .ruler)) (a .table .now) (a .directory .now) (a .originals .now) (a .replicas .now) (c .before .before .judged .result)
+    (c .before .before .judged .ensures) (fine c)
+
+-- where the code cuts the directory
+half : (c : tie.After-half-length) → c .half-length .result ≡ halfLength
+    (scale (c .before .before .before .before .before .before .before .before .before .args .ruler) .m)
+half c = c .half-length .ensures ∙ ap halfLength (c .before .bottom .ensures)
+
+both : (c : tie.After-half-length) → length
+    (c .before .before .before .before .before .before .before .before .before .args .directory .now)
+    ≡ c .half-length .result + c .half-length .result
+both c = two-halves _ (a-table (c .before .before) .directory) (half c)
 
 sub-fill : tie.Need-sub-fill
 sub-fill c = search needs
@@ -32,51 +65,39 @@ part-fill-start : tie.Need-part-fill-start
 part-fill-start c = search needs
 
 part-fill-end : tie.Need-part-fill-end
-part-fill-end c = search needs
+part-fill-end c = omega (arith, both c)
 
 fill-requires : tie.Need-fill-requires
 fill-requires c κs =
-    let g = c .before .before .before .before .before .before .before .before .before in
+    let cut = c .before .before in
+    let g = cut .before .before .before .before .before .before .before .before .before in
     let a = g .args in
-    let d = a .directory .now in
-    let o = a .originals .now in
-    let p = a .replicas .now in
-    let s = scale (a .ruler) in
-    let fine = sym (c .before .before .before .is-accepted .ensures) ∙ not-false _ (c .before .before .if1 .left) in
-    let w = accepted-table s (a .table .now) d o p (c .before .before .before .before .judged .result)
-    (c .before .before .before .before .judged .ensures) fine in
-    let h = length d / 2 in
-    first-half (a .ruler) (a .table .now) d o p (g .pre) w _ (length-take-le (h - 0) d (omega arith) ∙ omega arith)
+    first-half (a .ruler) (a .table .now) (a .directory .now) (a .originals .now) (a .replicas .now) (g .pre) (a-table (cut .before .before)) _
+    (first-long (a .directory .now) (cut .half-length .result) (length (a .directory .now)) (both cut) refl ∙ half cut)
 
 mul-fill : tie.Need-mul-fill
-mul-fill c = search needs
+mul-fill c = omega (arith, both (c .before .before .before .before .before .before .before))
 
 sub-fill-2 : tie.Need-sub-fill-2
-sub-fill-2 c = search needs
+sub-fill-2 c = omega (arith, both (c .before .before .before .before .before .before .before))
 
 part-fill-start-2 : tie.Need-part-fill-start-2
-part-fill-start-2 c = search needs
+part-fill-start-2 c = omega (arith, both (c .before .before .before .before .before .before .before))
 
 part-fill-end-2 : tie.Need-part-fill-end-2
 part-fill-end-2 c = search needs
 
 fill-requires-2 : tie.Need-fill-requires-2
 fill-requires-2 c κs =
-    let far = c .before .before .before .before .before .before .before .before .before in
-    let g = far .before .before .before .before .before .before .before in
+    let cut = c .before .before .before .before .before .before .before .before .before in
+    let g = cut .before .before .before .before .before .before .before .before .before in
     let a = g .args in
     let d = a .directory .now in
-    let o = a .originals .now in
-    let p = a .replicas .now in
-    let s = scale (a .ruler) in
-    let fine = sym (far .before .is-accepted .ensures) ∙ not-false _ (far .if1 .left) in
-    let w = accepted-table s (a .table .now) d o p (far .before .before .judged .result) (far .before .before .judged .ensures) fine in
-    let h = length d / 2 in
-    let made = c .before .before .before .before .before .before .fill .last .0 in
-    let long : length made ≡ h =
-    c .before .before .before .before .before .before .fill .kept .0 ∙ length-take-le (h - 0) d (omega arith) ∙ omega arith in
-    second-half (a .ruler) (a .table .now) d o p (g .pre) w _
-    (length-second d made made h (twice (a .ruler) (a .table .now) d o p (g .pre) w) long)
+    let h = cut .half-length .result in
+    let one = c .before .before .before .before .before .before .fill in
+    let long = one .kept .0 ∙ first-long d h (length d) (both cut) refl in
+    second-half (a .ruler) (a .table .now) d (a .originals .now) (a .replicas .now) (g .pre) (a-table (cut .before .before)) _
+    (next-long d h (length d) (both cut) refl (one .last .0) long ∙ half cut)
 
 same-length : tie.Need-same-length
 same-length c = search needs
@@ -89,27 +110,20 @@ same-length-3 c = search needs
 
 returns-2 : tie.Need-returns-2
 returns-2 c =
-    let far = c .before .before .before .before .before .before .before .before .before in
-    let start = far .before .before .before .before .before .before .before .before .before in
-    let g = start .before .before .before in
+    let cut = c .before .before .before .before .before .before .before .before .before .before .before .before .before .before in
+    let taken = cut .before .before in
+    let g = cut .before .before .before .before .before .before .before .before .before in
     let a = g .args in
     let d = a .directory .now in
-    let o = a .originals .now in
-    let p = a .replicas .now in
-    let s = scale (a .ruler) in
-    let fine = sym (far .before .before .before .before .before .before .is-accepted .ensures)
-    ∙ not-false _ (far .before .before .before .before .before .if1 .left) in
-    let w = accepted-table s (a .table .now) d o p (far .before .before .before .before .before .before .before .judged .result)
-    (far .before .before .before .before .before .before .before .judged .ensures) fine in
-    let h = length d / 2 in
-    let one = far .before .before .fill in
+    let h = cut .half-length .result in
+    let one = c .before .before .before .before .before .before .before .before .before .before .before .fill in
     let two = c .before .before .before .before .fill2 in
-    let long : length (one .last .0) ≡ h = one .kept .0 ∙ length-take-le (h - 0) d (omega arith) ∙ omega arith in
-    let halves = both-back d (one .last .0) (two .last .0) h (twice (a .ruler) (a .table .now) d o p (g .pre) w) long
+    let long = one .kept .0 ∙ first-long d h (length d) (both cut) refl in
+    let halves = both-back d h (length d) (both cut) refl (one .last .0) long (two .last .0)
     ∙ ap₂ _++_ (one .ensures .directory-is) (two .ensures .directory-is) in
-    left-new s (a .table .now) d o p (far .before .before .before .before .before .before .before .judged .result)
-    (far .before .before .before .before .before .before .before .judged .ensures) fine _ (one .last .1 .0) (two .last .1 .0) halves
-    (one .ensures .words-are) (two .ensures .words-are)
+    left-new (scale (a .ruler)) (a .table .now) d (a .originals .now) (a .replicas .now) (taken .before .before .judged .result)
+    (taken .before .before .judged .ensures)
+    (fine taken) _ (one .last .1 .0) (two .last .1 .0) halves (one .ensures .words-are) (two .ensures .words-are)
 
 pub build-on-spec : {M : Type 1} → statement M
 build-on-spec =
@@ -118,6 +132,8 @@ build-on-spec =
     judged-requires
     is-accepted-requires
     returns
+    bottom-requires
+    half-length-requires
     sub-fill
     part-fill-start
     part-fill-end

@@ -1,9 +1,33 @@
 -- Each half is lent as the index has it; both, come back, are the whole index again.
+use mathlib.Core.Path.{_≡_, ap, _∙_}
+use Prim.Native.Nat.{_+_}
+use lib.ListN.{length}
+use Rattle.ruler.specs.Ruler.{scale}
+use Rattle.layout.specs.Words.{halfLength}
 use Rattle.layout.specs.Calls.{index}
-use Rattle.edit.proofs.Lent.{adding, first-lent, second-lent, both-back}
+use Rattle.layout.proofs.RulerCells.{deep-ruler}
+use Rattle.edit.proofs.Lent.{adding, two-parts, first-lent, second-lent, both-back}
+use native.Mathlib.Omega.{arith}
 use borrow.Author.Needs.{needs}
 use Rattle.edit.proofs.put_in.Statement.{statement}
 use Rattle.edit.proofs.put_in.Tie as tie
+
+bottom-requires : tie.Need-bottom-requires
+bottom-requires c κs = search needs
+
+half-length-requires : tie.Need-half-length-requires
+half-length-requires c κs = let s = c .before .before .before .before in rw (c .bottom .ensures) (deep-ruler (s .args .ruler) (s .pre .0))
+
+-- where the code cuts
+half : (c : tie.After-half-length) → c .half-length .result ≡ halfLength (scale (c .before .before .before .before .before .args .ruler) .m)
+half c = c .half-length .ensures ∙ ap halfLength (c .before .bottom .ensures)
+
+both : (c : tie.After-half-length) → length
+    (c .before .before .before .before .before .args .directory .now) ≡ c .half-length .result + c .half-length .result
+both c =
+    let s = c .before .before .before .before .before in
+    let x = index (s .args .directory .now) (s .args .originals .now) (s .args .replicas .now) in
+    two-parts _ _ _ (adding (s .args .ruler) (s .pre .0) x (s .args .t) (s .pre .1)) (half c)
 
 sub-add-half : tie.Need-sub-add-half
 sub-add-half c = search needs
@@ -12,33 +36,39 @@ part-add-half-start : tie.Need-part-add-half-start
 part-add-half-start c = search needs
 
 part-add-half-end : tie.Need-part-add-half-end
-part-add-half-end c = search needs
+part-add-half-end c = omega (arith, both c)
 
 add-half-requires : tie.Need-add-half-requires
 add-half-requires c κs =
-    let s = c .before .before .before .before .before in
+    let s = c .before .before .before .before .before .before .before in
     let x = index (s .args .directory .now) (s .args .originals .now) (s .args .replicas .now) in
     let e = adding (s .args .ruler) (s .pre .0) x (s .args .t) (s .pre .1) in
-    (s .pre .0, (x, first-lent _ _ _ e))
+    (s .pre .0, (x, first-lent _ _ _ e (half (c .before .before))))
 
 mul-add-half : tie.Need-mul-add-half
-mul-add-half c = search needs
+mul-add-half c = omega (arith, both (c .before .before .before .before .before .before .before))
 
 sub-add-half-2 : tie.Need-sub-add-half-2
-sub-add-half-2 c = search needs
+sub-add-half-2 c = omega (arith, both (c .before .before .before .before .before .before .before))
 
 part-add-half-start-2 : tie.Need-part-add-half-start-2
-part-add-half-start-2 c = search needs
+part-add-half-start-2 c = omega (arith, both (c .before .before .before .before .before .before .before))
 
 part-add-half-end-2 : tie.Need-part-add-half-end-2
 part-add-half-end-2 c = search needs
 
 add-half-requires-2 : tie.Need-add-half-requires-2
 add-half-requires-2 c κs =
-    let s = c .before .before .before .before .before .before .before .before .before .before .before .before in
+    let s = c .before .before .before .before .before .before .before .before .before .before .before .before .before .before in
     let x = index (s .args .directory .now) (s .args .originals .now) (s .args .replicas .now) in
-    let e = adding (s .args .ruler) (s .pre .0) x (s .args .t) (s .pre .1) in
-    (s .pre .0, (x, second-lent _ _ _ e (c .before .before .before .before .before .before .add-half .ensures x)))
+    let e = adding (s .args .ruler) (s .pre .0) x (s .args .t) (s .pre .1) in (
+      s .pre .0,
+      (
+        x,
+        second-lent _ _ _ e (half (c .before .before .before .before .before .before .before .before .before))
+            (c .before .before .before .before .before .before .add-half .ensures x),
+      ),
+    )
 
 same-length : tie.Need-same-length
 same-length c = search needs
@@ -51,17 +81,19 @@ same-length-3 c = search needs
 
 returns : tie.Need-returns
 returns c =
-    let s = c .before .before .before .before .before .before .before .before .before .before .before .before .before .before .before .before .before
-    in
+    let cut = c .before .before .before .before .before .before .before .before .before .before .before .before .before .before in
+    let s = cut .before .before .before .before .before in
     let x = index (s .args .directory .now) (s .args .originals .now) (s .args .replicas .now) in
     let e = adding (s .args .ruler) (s .pre .0) x (s .args .t) (s .pre .1) in
-    both-back _ _ _ e (c .before .before .before .before .before .before .before .before .before .before .before .add-half .ensures x)
+    both-back _ _ _ e (half cut) (c .before .before .before .before .before .before .before .before .before .before .before .add-half .ensures x)
     (c .before .before .before .before .add-half2 .ensures x)
 
 pub put-in-spec : {M : Type 1} → statement M
 put-in-spec =
     tie.close
     (tie.spec
+    bottom-requires
+    half-length-requires
     sub-add-half
     part-add-half-start
     part-add-half-end

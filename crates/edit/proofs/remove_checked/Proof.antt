@@ -1,11 +1,12 @@
 -- The place that the search gives is that of the id among the trips; the trip there is taken out.
-use mathlib.Core.Path.{ap, _∙_}
+use mathlib.Core.Path.{_≡_, ap, _∙_}
 use Prim.Native.Nat.{ℕ, _-_, _*_}
-use lib.ListN.{take}
+use lib.ListN.{length, getD, take}
 use Rattle.ruler.specs.Ruler.{scale}
-use Rattle.layout.specs.Words.{entryWords, rows, directoryLength, lengthsOf, layout}
+use Rattle.layout.specs.Words.{entryWords, rows, partitions, directoryLength, Index, lengthsOf, layout}
 use Rattle.layout.specs.Refusals.{tableOf}
 use Rattle.layout.specs.Calls.{index, without}
+use Rattle.layout.proofs.RulerCells.{deep-ruler}
 use Rattle.layout.proofs.Checked.{checked}
 use Rattle.edit.specs.Search.{placeOfId}
 use Rattle.edit.proofs.Reading.{Shown, shown}
@@ -16,28 +17,33 @@ use borrow.Author.Needs.{needs}
 use Rattle.edit.proofs.remove_checked.Statement.{statement}
 use Rattle.edit.proofs.remove_checked.Tie as tie
 
+abbrev words : tie.Start → Index
+words s = index (s .args .directory .now) (s .args .originals .now) (s .args .replicas .now)
+
 -- what the requires says of the words
-in-index : (s : tie.Start) → Shown (scale (s .args .ruler)) (index (s .args .directory .now) (s .args .originals .now) (s .args .replicas .now))
+in-index : (s : tie.Start) → Shown (scale (s .args .ruler)) (words s)
 in-index s = shown _ _ (checked _ _ (s .pre .1))
 
-sub-trips : tie.Need-sub-trips
-unfolding directoryLength
-sub-trips c = omega (arith, in-index (c .before .before .before))
+bottom-requires : tie.Need-bottom-requires
+bottom-requires c κs = search needs
 
-mul-trips : tie.Need-mul-trips
-mul-trips c = search needs
-
-slice-read-trips : tie.Need-slice-read-trips
+trips-of-requires : tie.Need-trips-of-requires
 unfolding directoryLength
-slice-read-trips c = omega (arith, in-index (c .before .before .before .before))
+trips-of-requires c κs =
+    let g = c .before .before .before .before .before in
+    rw (c .before .bottom .ensures) (deep-ruler (g .args .ruler) (g .pre .0), omega (arith, in-index g .size))
 
-cast-trips : tie.Need-cast-trips
-unfolding directoryLength
-cast-trips c = omega (arith, in-index (c .before .before .before .before))
+-- as many trips as the directory says
+counted : (c : tie.After-trips-of) → c .trips-of .result
+    ≡ length (tableOf (scale (c .before .before .before .before .before .before .args .ruler)) (words
+    (c .before .before .before .before .before .before)))
+counted c =
+    let g = c .before .before .before .before .before .before in
+    c .trips-of .ensures ∙ ap (λ (m : ℕ). getD (g .args .directory .now) (2 * partitions m) 0) (c .before .before .bottom .ensures)
+    ∙ in-index g .trips
 
 mul-used : tie.Need-mul-used
-unfolding directoryLength
-mul-used c = omega (arith, in-index (c .before .before .before .before))
+mul-used c = omega (arith, in-index (c .before .before .before .before .before .before), counted c)
 
 sub-find-id : tie.Need-sub-find-id
 sub-find-id c = search needs
@@ -46,7 +52,7 @@ part-find-id-start : tie.Need-part-find-id-start
 part-find-id-start c = search needs
 
 part-find-id-end : tie.Need-part-find-id-end
-part-find-id-end c = omega (arith, in-index (c .before .before .before .before .before))
+part-find-id-end c = omega (arith, in-index (c .before .before .before .before .before .before .before), counted (c .before))
 
 find-id-requires : tie.Need-find-id-requires
 find-id-requires c κs = search needs
@@ -57,33 +63,46 @@ refused-requires c κs = search needs
 same-length : tie.Need-same-length
 same-length c = search needs
 
+same-length-2 : tie.Need-same-length-2
+same-length-2 c = search needs
+
 returns : tie.Need-returns
 returns c =
-    let g = c .before .before .before .before .before .before .before .before .before in
+    let g = c .before .before .before .before .before .before .before .before .before .before .before in
     let s = scale (g .args .ruler) in
     let x = index (g .args .directory .now) (g .args .originals .now) (g .args .replicas .now) in
     let w = in-index g in
-    let read = ap (λ (k : ℕ). rows (take (entryWords * k - 0) (x .originals))) (w .trips) ∙ w .listed in
+    let read = ap (λ (k : ℕ). rows (take (entryWords * k - 0) (x .originals))) (counted (c .before .before .before .before .before)) ∙ w .listed in
     let place = c .before .before .find-id .ensures ∙ ap (placeOfId (g .args .id)) read in
-    not-found s x (g .args .id) _ (g .pre .1) w place _ (omega (arith, w .trips, c .before .if1 .taken)) (c .refused .ensures)
+    not-found s x (g .args .id) _ (g .pre .1) w place _ (omega (arith, counted (c .before .before .before .before .before), c .before .if1 .taken))
+    (c .refused .ensures)
 
 trip-at-requires : tie.Need-trip-at-requires
-trip-at-requires c κs = omega (arith, in-index (c .before .before .before .before .before .before .before .before .before), c .before .if1 .left)
+trip-at-requires c κs = omega (
+  arith,
+  in-index (c .before .before .before .before .before .before .before .before .before .before .before),
+  counted
+      (c .before .before .before .before .before),
+  c .before .if1 .left,
+)
 
 take-out-requires : tie.Need-take-out-requires
 take-out-requires c κs =
-    let g = c .before .before .before .before .before .before .before .before .before .before .before .before .before in
+    let g = c .before .before .before .before .before .before .before .before .before .before .before .before .before .before .before in
     let s = scale (g .args .ruler) in
     let x = index (g .args .directory .now) (g .args .originals .now) (g .args .replicas .now) in
     let w = in-index g in
-    let read = ap (λ (k : ℕ). rows (take (entryWords * k - 0) (x .originals))) (w .trips) ∙ w .listed in
+    let read = ap (λ (k : ℕ). rows (take (entryWords * k - 0) (x .originals)))
+    (counted (c .before .before .before .before .before .before .before .before .before)) ∙ w .listed in
     let place = c .before .before .before .before .before .before .find-id .ensures ∙ ap (placeOfId (g .args .id)) read in
-    let f = found s x (g .args .id) _ (g .pre .1) w place (c .before .before .before .trip-at .result) (omega
-    (arith, w .trips, c .before .before .before .before .before .if1 .left)) (c .before .before .before .trip-at .ensures) in
+    let f = found s x (g .args .id) _ (g .pre .1) w place (c .before .before .before .trip-at .result) (omega (
+      arith,
+      counted
+          (c .before .before .before .before .before .before .before .before .before),
+      c .before .before .before .before .before .if1 .left,
+    ))
+    (c .before .before .before .trip-at .ensures) in
     (g .pre .0, (rw (f .same) (f .accepted), f .member))
-
-same-length-2 : tie.Need-same-length-2
-same-length-2 c = search needs
 
 same-length-3 : tie.Need-same-length-3
 same-length-3 c = search needs
@@ -91,19 +110,29 @@ same-length-3 c = search needs
 same-length-4 : tie.Need-same-length-4
 same-length-4 c = search needs
 
+same-length-5 : tie.Need-same-length-5
+same-length-5 c = search needs
+
 returns-2 : tie.Need-returns-2
 returns-2 c =
-    let g = c .before .before .before .before .before .before .before .before .before .before .before .before .before .before .before .before .before .before .before .before
-    in
+    let far = c .before .before .before .before .before .before .before .before .before .before .before .before in
+    let g = far .before .before .before .before .before .before .before .before .before .before in
     let s = scale (g .args .ruler) in
     let x = index (g .args .directory .now) (g .args .originals .now) (g .args .replicas .now) in
     let w = in-index g in
-    let read = ap (λ (k : ℕ). rows (take (entryWords * k - 0) (x .originals))) (w .trips) ∙ w .listed in
+    let read = ap (λ (k : ℕ). rows (take (entryWords * k - 0) (x .originals)))
+    (counted (c .before .before .before .before .before .before .before .before .before .before .before .before .before .before .before .before))
+    ∙ w .listed in
     let place = c .before .before .before .before .before .before .before .before .before .before .before .before .before .find-id .ensures
     ∙ ap (placeOfId (g .args .id)) read in
     let f = found s x (g .args .id) _ (g .pre .1) w place
     (c .before .before .before .before .before .before .before .before .before .before .trip-at .result)
-    (omega (arith, w .trips, c .before .before .before .before .before .before .before .before .before .before .before .before .if1 .left))
+    (omega (
+      arith,
+      counted
+          (c .before .before .before .before .before .before .before .before .before .before .before .before .before .before .before .before),
+      c .before .before .before .before .before .before .before .before .before .before .before .before .if1 .left,
+    ))
     (c .before .before .before .before .before .before .before .before .before .before .trip-at .ensures) in
     remove-accepted s x _ (g .args .id) (f .accepted) (c .before .before .before .before .before .before .take-out .ensures
     ∙ ap (λ (k : ℕ). layout s (without k (tableOf s x)) (lengthsOf x)) (f .same))
@@ -112,10 +141,8 @@ pub remove-checked-spec : {M : Type 1} → statement M
 remove-checked-spec =
     tie.close
     (tie.spec
-    sub-trips
-    mul-trips
-    slice-read-trips
-    cast-trips
+    bottom-requires
+    trips-of-requires
     mul-used
     sub-find-id
     part-find-id-start
@@ -123,10 +150,11 @@ remove-checked-spec =
     find-id-requires
     refused-requires
     same-length
+    same-length-2
     returns
     trip-at-requires
     take-out-requires
-    same-length-2
     same-length-3
     same-length-4
+    same-length-5
     returns-2)

@@ -4,7 +4,7 @@ use Prim.Native.Nat.{_-_, _≤_}
 use lib.ListN.{length}
 use Rattle.ruler.specs.Ruler.{Scale}
 use Rattle.layout.specs.Words.{Index}
-use Rattle.layout.specs.Walk.{slotsOfTrip}
+use Rattle.store.specs.TripWalk.{slotsOfTrip}
 use Rattle.store.specs.Slots.{Holds}
 use Rattle.edit.specs.Halves.{Adding}
 use Rattle.edit.proofs.Grown.{grownSlots, grown-start, grown-room, grown-turn, grown-end}

@@ -4,14 +4,16 @@ use mathlib.Core.Bool.{true, false}
 use mathlib.Core.List.{List}
 use Prim.Native.Nat.{ℕ, _-_, _*_}
 use lib.Dec.{leb}
-use lib.ListN.{length, take}
+use lib.ListN.{length, getD, take}
 use borrow.Author.Tests.{le-leb, lt-leb, not-true, not-false}
 use Rattle.ruler.specs.Ruler.{scale, mostTrips}
 use Rattle.trip.specs.declared.Trip.{Trip}
+use Rattle.layout.specs.declared.Half.the-variants.{Replicas}
 use Rattle.layout.specs.declared.Outcome.the-variants.{Accepted}
-use Rattle.layout.specs.Words.{entryWords, rows, directoryLength, Index}
+use Rattle.layout.specs.Words.{entryWords, rows, partitions, directoryLength, entries, Index}
 use Rattle.layout.specs.Refusals.{isAccepted, refuse, rowTests, tableOf}
 use Rattle.layout.specs.Calls.{index}
+use Rattle.layout.proofs.RulerCells.{deep-ruler}
 use Rattle.layout.proofs.Checked.{checked}
 use Rattle.layout.proofs.Tables.{RowOk}
 use Rattle.edit.proofs.Reading.{Shown, shown}
@@ -32,57 +34,52 @@ trips g = tableOf (scale (g .args .ruler)) (words g)
 in-index : (g : tie.Start) → Shown (scale (g .args .ruler)) (words g)
 in-index g = shown _ _ (checked _ _ (g .pre .1))
 
+-- as many trips, and as many replicas, as the directory says
+counted : (c : tie.After-entries-of) → (c .before .trips-of .result ≡ length (trips (c .before .before .before .before .before .before)))
+    × (c .entries-of .result ≡ length (entries (scale (c .before .before .before .before .before .before .args .ruler)) Replicas (trips
+    (c .before .before .before .before .before .before))))
+counted c =
+    let g = c .before .before .before .before .before .before in
+    let w = in-index g in (
+      c .before .trips-of .ensures ∙ ap (λ (m : ℕ). getD (g .args .directory .now) (2 * partitions m) 0) (c .before .before .bottom .ensures)
+          ∙ w .trips,
+      c .entries-of .ensures ∙ w .copies,
+    )
+
 -- past the first test: there may be one more trip
-few : (c : tie.Else1) → leb mostTrips (length (trips (c .before .before .before .before .before .before))) ≡ false
-few c = let g = c .before .before .before .before .before .before in
-    lt-leb mostTrips (length (trips g)) (omega (arith, in-index g .trips, c .if1 .left))
+few : (c : tie.Else1) → leb mostTrips (length (trips (c .before .before .before .before .before .before .before))) ≡ false
+few c = let g = c .before .before .before .before .before .before .before in
+    lt-leb mostTrips (length (trips g)) (omega (arith, counted (c .before) .0, c .if1 .left))
 
 -- the outcome of the trip's tests among the trips of the index
 row-is : (c : tie.After-is-accepted) → c .before .trip-outcome .result
-    ≡ rowTests (scale (c .before .before .before .before .before .before .before .before .before .args .ruler))
-    (trips (c .before .before .before .before .before .before .before .before .before))
-    (c .before .before .before .before .before .before .before .before .before .args .t) 0 Accepted
+    ≡ rowTests (scale (c .before .before .before .before .before .before .before .before .before .before .args .ruler))
+    (trips (c .before .before .before .before .before .before .before .before .before .before))
+    (c .before .before .before .before .before .before .before .before .before .before .args .t) 0 Accepted
 row-is c =
-    let g = c .before .before .before .before .before .before .before .before .before in
+    let g = c .before .before .before .before .before .before .before .before .before .before in
     let w = in-index g in
-    let read = ap (λ (k : ℕ). rows (take (entryWords * k - 0) (words g .originals))) (w .trips) ∙ w .listed in
+    let read = ap (λ (k : ℕ). rows (take (entryWords * k - 0) (words g .originals))) (counted (c .before .before .before .before) .0) ∙ w .listed in
     c .before .trip-outcome .ensures ∙ ap (λ (l : List Trip). rowTests (scale (g .args .ruler)) l (g .args .t) 0 Accepted) read
 
 -- past the second: the trip passes them
-row-ok : (c : tie.Else2) → RowOk (scale (c .before .before .before .before .before .before .before .before .before .before .args .ruler))
-    (trips (c .before .before .before .before .before .before .before .before .before .before))
-    (c .before .before .before .before .before .before .before .before .before .before .args .t)
+row-ok : (c : tie.Else2) → RowOk (scale (c .before .before .before .before .before .before .before .before .before .before .before .args .ruler))
+    (trips (c .before .before .before .before .before .before .before .before .before .before .before))
+    (c .before .before .before .before .before .before .before .before .before .before .before .args .t)
 row-ok c = row-taken _ _ _ _ (row-is (c .before)) (sym (c .before .is-accepted .ensures) ∙ not-false _ (c .if2 .left))
 
-sub-trips : tie.Need-sub-trips
+bottom-requires : tie.Need-bottom-requires
+bottom-requires c κs = search needs
+
+trips-of-requires : tie.Need-trips-of-requires
 unfolding directoryLength
-sub-trips c = omega (arith, in-index (c .before .before .before))
+trips-of-requires c κs =
+    let g = c .before .before .before .before in
+    rw (c .bottom .ensures) (deep-ruler (g .args .ruler) (g .pre .0), omega (arith, in-index g .size))
 
-mul-trips : tie.Need-mul-trips
-mul-trips c = search needs
-
-shared-slice-read-trips : tie.Need-shared-slice-read-trips
+entries-of-requires : tie.Need-entries-of-requires
 unfolding directoryLength
-shared-slice-read-trips c = omega (arith, in-index (c .before .before .before .before))
-
-cast-trips : tie.Need-cast-trips
-unfolding directoryLength
-cast-trips c = omega (arith, in-index (c .before .before .before .before))
-
-sub-copies : tie.Need-sub-copies
-unfolding directoryLength
-sub-copies c = omega (arith, in-index (c .before .before .before .before))
-
-mul-copies : tie.Need-mul-copies
-mul-copies c = search needs
-
-shared-slice-read-copies : tie.Need-shared-slice-read-copies
-unfolding directoryLength
-shared-slice-read-copies c = omega (arith, in-index (c .before .before .before .before .before))
-
-cast-copies : tie.Need-cast-copies
-unfolding directoryLength
-cast-copies c = omega (arith, in-index (c .before .before .before .before .before))
+entries-of-requires c κs = omega (arith, in-index (c .before .before .before .before .before) .size)
 
 refused-requires : tie.Need-refused-requires
 refused-requires c κs = search needs
@@ -90,9 +87,10 @@ refused-requires c κs = search needs
 returns : tie.Need-returns
 unfolding refuse
 returns c =
-    let g = c .before .before .before .before .before .before .before in
+    let g = c .before .before .before .before .before .before .before .before in
     let w = in-index g in
-    let full : leb mostTrips (length (trips g)) ≡ true = le-leb mostTrips (length (trips g)) (omega (arith, w .trips, c .before .if1 .taken)) in
+    let full : leb mostTrips (length (trips g)) ≡ true = le-leb mostTrips (length (trips g))
+    (omega (arith, counted (c .before .before) .0, c .before .if1 .taken)) in
     c .refused .ensures ∙ sym (add-full (scale (g .args .ruler)) (words g) (g .args .t) (g .pre .1) w true full)
 
 mul-used : tie.Need-mul-used
@@ -105,7 +103,7 @@ part-trip-outcome-start : tie.Need-part-trip-outcome-start
 part-trip-outcome-start c = search needs
 
 part-trip-outcome-end : tie.Need-part-trip-outcome-end
-part-trip-outcome-end c = omega (arith, in-index (c .before .before .before .before .before .before))
+part-trip-outcome-end c = omega (arith, in-index (c .before .before .before .before .before .before .before), counted (c .before) .0)
 
 trip-outcome-requires : tie.Need-trip-outcome-requires
 trip-outcome-requires c κs = search needs
@@ -116,7 +114,7 @@ is-accepted-requires c κs = search needs
 returns-2 : tie.Need-returns-2
 unfolding refuse
 returns-2 c =
-    let g = c .before .before .before .before .before .before .before .before .before .before in
+    let g = c .before .before .before .before .before .before .before .before .before .before .before in
     let is = row-is (c .before) in
     let not-taken = sym (ap isAccepted is) ∙ sym (c .before .is-accepted .ensures) ∙ not-true _ (c .if2 .taken) in
     is ∙ sym (add-row (scale (g .args .ruler)) (words g) (g .args .t) (g .pre .1) (in-index g) (few (c .before .before .before .before)) not-taken)
@@ -124,9 +122,9 @@ returns-2 c =
 lacks-room-requires : tie.Need-lacks-room-requires
 unfolding refuse
 lacks-room-requires c κs =
-    let g = c .before .before .before .before .before .before .before .before .before .before in
+    let g = c .before .before .before .before .before .before .before .before .before .before .before in
     let cells = cells-in (g .args .ruler) (g .pre .0) (g .args .t) (row-ok (c) .fits) in
-    (g .pre .0, (cells .0, cells .1, omega (arith, in-index g)))
+    (g .pre .0, (cells .0, cells .1, omega (arith, in-index g, counted (c .before .before .before .before .before) .0)))
 
 refused-requires-2 : tie.Need-refused-requires-2
 refused-requires-2 c κs = search needs
@@ -134,19 +132,20 @@ refused-requires-2 c κs = search needs
 returns-3 : tie.Need-returns-3
 unfolding refuse
 returns-3 c =
-    let g = c .before .before .before .before .before .before .before .before .before .before .before .before .before in
+    let g = c .before .before .before .before .before .before .before .before .before .before .before .before .before .before in
     let row = row-ok (c .before .before .before) in
     let cells = cells-in (g .args .ruler) (g .pre .0) (g .args .t) (row .fits) in
     c .refused2 .ensures ∙ sym (add-room (scale (g .args .ruler)) (words g) (g .args .t) (g .pre .1) (in-index g)
-    (few (c .before .before .before .before .before .before .before)) row (cells .1) true _
+    (few (c .before .before .before .before .before .before .before)) row (cells .1)
+    (counted (c .before .before .before .before .before .before .before .before)) true _
     (sym (c .before .before .lacks-room .ensures) ∙ c .before .if3 .taken) refl)
 
 lacks-room-requires-2 : tie.Need-lacks-room-requires-2
 unfolding refuse
 lacks-room-requires-2 c κs =
-    let g = c .before .before .before .before .before .before .before .before .before .before .before .before in
+    let g = c .before .before .before .before .before .before .before .before .before .before .before .before .before in
     let cells = cells-in (g .args .ruler) (g .pre .0) (g .args .t) (row-ok (c .before .before) .fits) in
-    (g .pre .0, (cells .0, cells .1, omega (arith, in-index g)))
+    (g .pre .0, (cells .0, cells .1, omega (arith, in-index g, counted (c .before .before .before .before .before .before .before) .1)))
 
 refused-requires-3 : tie.Need-refused-requires-3
 refused-requires-3 c κs = search needs
@@ -154,36 +153,33 @@ refused-requires-3 c κs = search needs
 returns-4 : tie.Need-returns-4
 unfolding refuse
 returns-4 c =
-    let g = c .before .before .before .before .before .before .before .before .before .before .before .before .before .before .before in
+    let g = c .before .before .before .before .before .before .before .before .before .before .before .before .before .before .before .before in
     let row = row-ok (c .before .before .before .before .before) in
     let cells = cells-in (g .args .ruler) (g .pre .0) (g .args .t) (row .fits) in
     c .refused3 .ensures ∙ sym (add-room (scale (g .args .ruler)) (words g) (g .args .t) (g .pre .1) (in-index g)
-    (few (c .before .before .before .before .before .before .before .before .before)) row (cells .1) false true
+    (few (c .before .before .before .before .before .before .before .before .before)) row (cells .1)
+    (counted (c .before .before .before .before .before .before .before .before .before .before)) false true
     (sym (c .before .before .before .before .lacks-room .ensures) ∙ c .before .before .before .if3 .left)
     (sym (c .before .before .lacks-room2 .ensures) ∙ c .before .if4 .taken))
 
 returns-5 : tie.Need-returns-5
 unfolding refuse
 returns-5 c =
-    let g = c .before .before .before .before .before .before .before .before .before .before .before .before .before .before in
+    let g = c .before .before .before .before .before .before .before .before .before .before .before .before .before .before .before in
     let row = row-ok (c .before .before .before .before) in
     let cells = cells-in (g .args .ruler) (g .pre .0) (g .args .t) (row .fits) in
     sym (add-room (scale (g .args .ruler)) (words g) (g .args .t) (g .pre .1) (in-index g)
-    (few (c .before .before .before .before .before .before .before .before)) row (cells .1) false false
+    (few (c .before .before .before .before .before .before .before .before)) row (cells .1)
+    (counted (c .before .before .before .before .before .before .before .before .before)) false false
     (sym (c .before .before .before .lacks-room .ensures) ∙ c .before .before .if3 .left) (sym (c .before .lacks-room2 .ensures) ∙ c .if4 .left))
 
 pub add-outcome-spec : {M : Type 1} → statement M
 add-outcome-spec =
     tie.close
     (tie.spec
-    sub-trips
-    mul-trips
-    shared-slice-read-trips
-    cast-trips
-    sub-copies
-    mul-copies
-    shared-slice-read-copies
-    cast-copies
+    bottom-requires
+    trips-of-requires
+    entries-of-requires
     refused-requires
     returns
     mul-used

@@ -2,7 +2,7 @@
 use mathlib.Core.Path.{ap₂, _∙_}
 use Prim.Native.Nat.{_+_}
 use Rattle.ruler.specs.Ruler.{scale}
-use Rattle.layout.proofs.RoomAdded.{held-many}
+use Rattle.store.proofs.TripWalkRoom.{held-many}
 use borrow.Author.Needs.{needs}
 use Rattle.edit.proofs.tests.partitions_of_trip.Statement.{statement}
 use Rattle.edit.proofs.tests.partitions_of_trip.Tie as tie

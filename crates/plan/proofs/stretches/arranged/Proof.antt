@@ -2,7 +2,7 @@
 use borrow.Author.Tests.{lt-ltb, le-ltb}
 use Rattle.ruler.specs.Ruler.{deepest}
 use Rattle.plan.specs.Plan.{arranged}
-use Rattle.plan.proofs.Ranges.{half-small}
+use Rattle.layout.proofs.Numbers.{half-small}
 use native.Mathlib.Omega.{arith}
 use borrow.Author.Needs.{needs}
 use Rattle.plan.proofs.stretches.arranged.Statement.{statement}

@@ -1,7 +1,8 @@
 -- The definition, part by part; every slot number is small.
 use Rattle.ruler.specs.Ruler.{deepest}
 use Rattle.plan.specs.Plan.{stretchesAt}
-use Rattle.plan.proofs.Ranges.{few-slots, slots-in, half-small}
+use Rattle.layout.proofs.Numbers.{half-small}
+use Rattle.plan.proofs.Ranges.{few-slots, slots-in}
 use native.Mathlib.Omega.{arith}
 use borrow.Author.Needs.{needs}
 use Rattle.plan.proofs.stretches.stretches_at.Statement.{statement}

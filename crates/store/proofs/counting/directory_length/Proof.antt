@@ -1,35 +1,18 @@
--- The formula of the definition.
-use Prim.Native.Nat.{_+_}
-use lib.Pow.{pow-pos}
-use Rattle.layout.specs.Words.{directoryLength, partitions}
+-- Two halves.
+use Rattle.layout.proofs.Numbers.{halves-length, half-small}
 use native.Mathlib.Omega.{arith}
 use borrow.Author.Needs.{needs}
 use Rattle.store.proofs.counting.directory_length.Statement.{statement}
 use Rattle.store.proofs.counting.directory_length.Tie as tie
 
-add-power : tie.Need-add-power
-add-power c = search needs
-
-power-requires : tie.Need-power-requires
-power-requires c κs = search needs
-
-cast-result : tie.Need-cast-result
-cast-result c = search needs
-
-sub-result : tie.Need-sub-result
-sub-result c = omega (arith, c .power .ensures, pow-pos (c .before .args .m + 1))
+half-length-requires : tie.Need-half-length-requires
+half-length-requires c κs = search needs
 
 mul-result : tie.Need-mul-result
-mul-result c = search needs
-
-add-result : tie.Need-add-result
-add-result c = search needs
+mul-result c = omega (arith, c .half-length .ensures, half-small (c .before .args .m) (c .before .pre))
 
 returns : tie.Need-returns
-unfolding directoryLength partitions
-returns c = rw (c .power .ensures)
+returns c = omega (arith, c .half-length .ensures, halves-length (c .before .args .m))
 
 pub directory-length-spec : {M : Type 1} → statement M
-directory-length-spec =
-    tie.close
-    (tie.spec add-power power-requires cast-result sub-result mul-result add-result returns)
+directory-length-spec = tie.close (tie.spec half-length-requires mul-result returns)

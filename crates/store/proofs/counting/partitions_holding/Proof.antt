@@ -8,7 +8,7 @@ use Rattle.trip.specs.declared.Trip.{Trip}
 use Rattle.layout.specs.Refusals.{partitionsHolding}
 use Rattle.layout.proofs.ByLevel.{heldAbove, held-in-all}
 use Rattle.layout.proofs.RulerCells.{deep-ruler, first-cell, last-cell}
-use Rattle.layout.proofs.LevelWalk.{Walk, walk-start, walk-turn, walk-end}
+use Rattle.store.proofs.CountingWalk.{Walk, walk-start, walk-turn, walk-end}
 use Rattle.store.proofs.Walking.{half-more}
 use native.Mathlib.Omega.{arith}
 use borrow.Author.Needs.{needs}

@@ -1,5 +1,5 @@
 -- The two words are read from any directory; what the test says makes the part one of the arena.
-use Rattle.store.specs.Parts.{partWords, partIn}
+use Rattle.store.specs.Parts.{partIn}
 use Rattle.store.proofs.Parts.{of-inside}
 use native.Mathlib.Omega.{arith}
 use borrow.Author.Needs.{needs}

@@ -2,7 +2,7 @@
 use mathlib.Core.Path.{_∙_}
 use Prim.Native.Nat.{_≤_, _<_}
 use borrow.Author.Tests.{leb-true, leb-false}
-use Rattle.layout.specs.Walk.{slotsOf}
+use Rattle.store.specs.TripWalk.{slotsOf}
 use Rattle.store.proofs.Walking.{Going, going-start, going-level, going-none, going-turn, going-end, wrote-long}
 use native.Mathlib.Omega.{arith}
 use Rattle.store.proofs.places.slots_of.Statement.{statement}

@@ -1,6 +1,6 @@
 -- The cells of the trip's times at the deepest level are those of the scale.
 use mathlib.Core.Path.{refl}
-use Rattle.layout.specs.Walk.{slotsOfTrip}
+use Rattle.store.specs.TripWalk.{slotsOfTrip}
 use Rattle.layout.proofs.RulerCells.{deep-ruler}
 use borrow.Author.Needs.{needs}
 use Rattle.store.proofs.places.trip_slots.Statement.{statement}

@@ -1,5 +1,5 @@
 -- The test of the code is that of `visit`.
-use Rattle.layout.specs.Walk.{visit}
+use Rattle.store.specs.TripWalk.{visit}
 use native.Mathlib.Omega.{arith}
 use borrow.Author.Needs.{needs}
 use Rattle.store.proofs.places.visited.Statement.{statement}

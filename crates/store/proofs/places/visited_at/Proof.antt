@@ -1,6 +1,6 @@
 -- One visit after the other.
 use lib.Dec.{eqb}
-use Rattle.layout.proofs.Walk.{visit-few}
+use Rattle.store.proofs.TripWalk.{visit-few}
 use Rattle.store.specs.Places.{visitsAt}
 use Rattle.store.proofs.Walking.{wrote-long, wrote-both}
 use native.Mathlib.Omega.{arith}

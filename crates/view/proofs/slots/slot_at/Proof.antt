@@ -1,6 +1,7 @@
 -- The words before the half, then those before the slot.
 use mathlib.Core.Path.{refl}
-use Rattle.view.proofs.Places.{few-words, slot-fits, slot-sum}
+use Rattle.layout.proofs.Numbers.{halves-length, half-small}
+use Rattle.view.proofs.Places.{slot-fits, slot-sum}
 use native.Mathlib.Omega.{arith}
 use borrow.Author.Needs.{needs}
 use Rattle.view.proofs.slots.slot_at.Statement.{statement}
@@ -32,7 +33,13 @@ add-result c =
     let side = c .before .is-aft .ensures in
     let number = rw (c .before .before .at .ensures) at (c .slot-number .ensures) in
     let e = slot-sum (a .m) (a .level) (a .i) (a .d) half from side (c .slot-number .result) number refl in
-    omega (arith, e, slot-fits (a .m) (a .level) (a .i) (a .d) (omega arith) (omega arith), few-words (a .m) (omega arith))
+    omega (
+      arith,
+      e,
+      slot-fits (a .m) (a .level) (a .i) (a .d) (omega arith) (omega arith),
+      halves-length (a .m),
+      half-small (a .m) (omega arith),
+    )
 
 returns : tie.Need-returns
 returns c =

@@ -11,21 +11,21 @@ use Rattle.lists.proofs.Members.{In, more}
 use Rattle.ruler.specs.Ruler.{Scale}
 use Rattle.ruler.proofs.Fair.{Fair}
 use Rattle.trip.specs.declared.Trip.{Trip}
 use Rattle.layout.specs.declared.Half.{Half}
 use Rattle.layout.specs.declared.Half.the-variants.{Originals, Replicas}
 use Rattle.layout.specs.declared.Outcome.the-variants.{Accepted}
 use Rattle.layout.specs.Words.{entryWords, words, rows, entries, Index}
 use Rattle.layout.specs.Refusals.{IndexOf, tableOf, rowTests, addOutcome, Fits}
 use Rattle.layout.specs.Calls.{without, removeOf}
 use Rattle.layout.proofs.RowOrder.{Distinct, entries-same}
 use Rattle.layout.proofs.Slots.{same-id}
 use Rattle.layout.proofs.Rows.{rows-words}
 use Rattle.layout.proofs.Tables.{of-rowTests}
 use Rattle.layout.proofs.Indexes.{given-table, given-indexed}
-use Rattle.layout.proofs.RoomAdded.{entries-added}
+use Rattle.store.proofs.TripWalkRoom.{entries-added}
 use Rattle.layout.proofs.Edited.{to-add, of-without, to-without, without-distinct, without-shorter, table-in}
 use Rattle.layout.proofs.Given.{given-length, given-entries}
 use Rattle.layout.proofs.Left.{removed-left, remove-accepted}
 
 -- a trip more adds its own entries, as many as a table of it alone has
 own-entries : (s : Scale) → Fair s → (t : Trip) → Fits s t → (h : Half) (ts : List Trip)

@@ -1,11 +1,11 @@
 -- Whole entries before the end.
 use Prim.Native.Nat.{_-_}
 use lib.ListN.{length}
-use Rattle.verify.specs.Local.{total}
+use Rattle.store.specs.Halves.{total}
 use native.Mathlib.Omega.{arith}
 use borrow.Author.Needs.{needs}
-use Rattle.verify.proofs.half.words_of.Statement.{statement}
-use Rattle.verify.proofs.half.words_of.Tie as tie
+use Rattle.store.proofs.half.words_of.Statement.{statement}
+use Rattle.store.proofs.half.words_of.Tie as tie
 
 entries-of-requires : tie.Need-entries-of-requires
 entries-of-requires c κs = search needs

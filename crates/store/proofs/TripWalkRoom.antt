@@ -1,8 +1,8 @@
--- How many entries a table has, and how many more with one trip more: what the test of the arenas' room adds up.
+-- How many entries more a table has with one trip more: one in each slot of the trip's walk. What the test of the arenas' room adds up.
 use mathlib.Core.Path.{_≡_, refl, ap, _∙_}
 use mathlib.Core.Bool.{Bool, true, false}
-use mathlib.Core.List.{List, [], _∷_, List·Memᴰ as Mem, List·Memᴰ·head as here, List·Memᴰ·tail as there}
-use Prim.Native.Nat.{ℕ, zero, suc, _+_, _*_, _^_, _≤_, _<_}
+use mathlib.Core.List.{List, [], _∷_}
+use Prim.Native.Nat.{ℕ, zero, suc, _+_, _*_, _^_, _<_}
 use native.Mathlib.Nat.{not-suc-le-zero}
 use native.Mathlib.Decide.{ℕ-discrete}
 use native.Mathlib.Omega.{arith}
@@ -13,36 +13,16 @@ use Rattle.lists.specs.Lists.{consIf, keep, joined, oneMore, count, sumOver}
 use Rattle.lists.proofs.Members.{length-sort}
 use Rattle.lists.proofs.Counts.{count-none}
 use Rattle.lists.proofs.Sums.{sumTo, exchange}
-use Rattle.ruler.specs.Ruler.{Scale, mostTrips}
+use Rattle.ruler.specs.Ruler.{Scale}
 use Rattle.trip.specs.declared.Trip.{Trip}
 use Rattle.layout.specs.declared.Half.{Half}
 use Rattle.layout.specs.declared.Half.the-variants.{Originals, Replicas}
-use Rattle.layout.specs.Words.{partitions, slotTrips, slot, entriesBefore, entries, Lengths}
-use Rattle.layout.specs.Refusals.{mostPartitions, partitionsHolding}
-use Rattle.layout.specs.Walk.{slotsOfTrip}
-use Rattle.layout.proofs.Tables.{Table}
+use Rattle.layout.specs.Words.{partitions, slotTrips, slot, entriesBefore, entries}
+use Rattle.layout.specs.Refusals.{partitionsHolding}
+use Rattle.store.specs.TripWalk.{slotsOfTrip, Below, none, also}
 use Rattle.layout.proofs.Counted.{all-entries}
-use Rattle.layout.proofs.Walk.{those, Below, none, also, inSlot, walk-once, walk-below}
-
--- ---- never more than the most trips in the most partitions each
-
-sum-most : (f : Trip → ℕ) (ts : List Trip) → ((t : Trip) → Mem t ts → f t ≤ mostPartitions) → sumOver f ts ≤ length ts * mostPartitions
-unfolding sumOver
-sum-most f [] h = omega arith
-sum-most f (t ∷ ts) h = omega (arith, h t (here refl), sum-most f ts (λ u m. h u (there m)))
-
--- of a table that build accepts
-pub entries-most : (s : Scale) (h : Half) (ts : List Trip) (n : Lengths) → Table s ts n → length (entries s h ts) ≤ mostTrips * mostPartitions
-entries-most s h ts n w = go h
-  where
-    all : length (entries s Originals ts) + length (entries s Replicas ts) ≤ mostTrips * mostPartitions
-    all = omega (arith, all-entries s ts, sum-most (partitionsHolding s) ts (w .rowsOk .few), w .few)
-
-    go : (h : Half) → length (entries s h ts) ≤ mostTrips * mostPartitions
-    go Originals = omega (arith, all)
-    go Replicas = omega (arith, all)
-
--- ---- one trip more: an entry more in each slot of its walk
+use Rattle.store.proofs.TripWalk.{those, walk-once, walk-below}
+use Rattle.layout.proofs.Slots.{inSlot}
 
 -- each number below n stands once among 0 .. n - 1
 count-one : (c n : ℕ) → c < n → count (λ k. eqb c k) n ≡ 1

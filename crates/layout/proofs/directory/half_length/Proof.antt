@@ -2,11 +2,11 @@
 use native.Mathlib.Nat.{two-pow-succ}
 use native.Mathlib.Numerals.{add-one}
 use lib.Pow.{pow-pos}
 use Rattle.layout.specs.Words.{partitions, halfLength}
 use native.Mathlib.Omega.{arith}
 use borrow.Author.Needs.{needs}
-use Rattle.plan.proofs.stretches.half_length.Statement.{statement}
-use Rattle.plan.proofs.stretches.half_length.Tie as tie
+use Rattle.layout.proofs.directory.half_length.Statement.{statement}
+use Rattle.layout.proofs.directory.half_length.Tie as tie
 
 power-requires : tie.Need-power-requires
 power-requires c κs = search needs

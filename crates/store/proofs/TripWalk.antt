@@ -9,7 +9,7 @@ use native.Mathlib.Numerals.{add-one}
 use native.Mathlib.Decide.{decLt, ℕ-discrete}
 use native.Mathlib.Omega.{arith}
 use lib.Dec.{T, ltb, eqb, not-T, ltb→lt, eqb→eq}
-use lib.ListN.{length, length-append}
+use lib.ListN.{length, getD, length-append}
 use lib.Pow.{pow-pos, pow-mono}
 use borrow.Author.Tests.{eqb-true, eqb-false, eq-eqb, ne-eqb, lt-ltb, le-ltb}
 use Rattle.lists.specs.Lists.{consIf, keep}
@@ -17,13 +17,14 @@ use Rattle.lists.proofs.Tests.{of-and, to-and, of-or, or-left, or-right}
 use Rattle.ruler.specs.Ruler.{Scale, cellUp}
 use Rattle.ruler.proofs.Levels.{up-half, up-bottom}
 use Rattle.trip.specs.declared.Trip.{Trip}
 use Rattle.layout.specs.declared.Half.{Half}
 use Rattle.layout.specs.declared.Half.the-variants.{Originals, Replicas}
 use Rattle.layout.specs.Stored.{within, holds, holdsTrip, isOriginal, isIn, isOf, subdivisionOf, belongs}
-use Rattle.layout.specs.Words.{partitions, partitionNumber, levelOf, placeOf, slotNumber, subdivisionAt}
-use Rattle.layout.specs.Walk.{inHalf, visit, walk, slotsOf, slotsOfTrip}
+use Rattle.layout.specs.Words.{partitions, partitionNumber, levelOf, placeOf, slotNumber}
+use Rattle.store.specs.TripWalk.{inHalf, visit, walk, slotsOf, slotsOfTrip, Below, none, also}
 use Rattle.layout.proofs.Partitions.{width-step, of-within, to-within, holds-within, holds-parent}
 use Rattle.layout.proofs.Numbers.{numbered, place-lt, number-place}
+use Rattle.layout.proofs.Slots.{inSlot}
 
 -- ---- which partitions of a level lie in a..b: lo .. hi - 1
 pub record Covered (m L a b lo hi : ℕ) : Type 0 where
@@ -211,14 +212,15 @@ those-visit half test L i j ca cb aft =
 
 -- ---- every slot that is visited is one of the levels that the walk has
 
--- every number of a list is below n
-pub data Below (n : ℕ) : List ℕ → Type 0 where
-  none : Below n []
-  also : {c : ℕ} {l : List ℕ} → c < n → Below n l → Below n (c ∷ l)
-
 below-append : {n : ℕ} {l k : List ℕ} → Below n l → Below n k → Below n (l ++ k)
 below-append none b = b
 below-append (also h a) b = also h (below-append a b)
+
+-- each of some numbers below n is below n
+pub below-at : {n : ℕ} {l : List ℕ} → Below n l → (j : ℕ) → j < length l → getD l j 0 < n
+below-at none j h = absurd (omega arith)
+below-at (also p b) zero h = p
+below-at (also p b) (suc j) h = below-at b j (omega arith)
 
 pub below-more : {n k : ℕ} {l : List ℕ} → n ≤ k → Below n l → Below k l
 below-more h none = none
@@ -348,10 +350,6 @@ module _ (m a b : ℕ) (half : Half) where
       rw (up-bottom m a, up-bottom m b) at w
 
 -- ---- for a trip and a slot of a half
-
--- the trip has an entry in slot k of the half
-abbrev pub inSlot : Scale → Half → (k : ℕ) → Trip → Bool
-inSlot s h k t = belongs s (subdivisionAt h k) (levelOf (s .m) (k / 2)) (placeOf (s .m) (k / 2)) t
 
 of-subdivision : (half : Half) (o e aft : Bool) → isOf (subdivisionOf half aft) o e ≡ inHalf half o && onSide aft e
 unfolding isOf subdivisionOf

@@ -2,11 +2,11 @@
 use mathlib.Core.Path.{refl}
 use Prim.Native.Nat.{_-_}
 use lib.ListN.{length}
-use Rattle.verify.specs.Local.{total}
+use Rattle.store.specs.Halves.{total}
 use native.Mathlib.Omega.{arith}
 use borrow.Author.Needs.{needs}
-use Rattle.verify.proofs.half.entries_of.Statement.{statement}
-use Rattle.verify.proofs.half.entries_of.Tie as tie
+use Rattle.store.proofs.half.entries_of.Statement.{statement}
+use Rattle.store.proofs.half.entries_of.Tie as tie
 
 sub-result : tie.Need-sub-result
 sub-result c = search needs

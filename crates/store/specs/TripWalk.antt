@@ -1,15 +1,15 @@
 -- The slots of a trip by a walk from level m up to level 0: at each level at most two partitions hold the trip, the first and the last of
 -- those that lie in its cells. That the walk visits exactly the slots in which the trip belongs, each once, is the law `walk-once`.
 use mathlib.Core.Bool.{Bool, not, _&&_}
-use mathlib.Core.List.{List, [], _++_}
-use Prim.Native.Nat.{ℕ, zero, suc, _+_, _*_, _/_, _%_}
+use mathlib.Core.List.{List, [], _∷_, _++_}
+use Prim.Native.Nat.{ℕ, zero, suc, _+_, _*_, _/_, _%_, _<_}
 use lib.Dec.{ltb, eqb}
 use Rattle.lists.specs.Lists.{consIf}
 use Rattle.ruler.specs.Ruler.{Scale}
 use Rattle.trip.specs.declared.Trip.{Trip}
 use Rattle.layout.specs.declared.Half.{Half}
 use Rattle.layout.specs.declared.Half.the-variants.{Originals, Replicas}
 use Rattle.layout.specs.Words.{slotNumber}
 
 -- an entry that is original or not is one of the half
 abbrev pub inHalf : Half → (isOriginal : Bool) → Bool
@@ -35,3 +35,8 @@ slotsOf h m a b = walk h (suc m) a (b + 1) a b
 
 unfoldable pub slotsOfTrip : Scale → Half → Trip → List ℕ
 slotsOfTrip s h t = slotsOf h (s .m) (s .cell (t .start)) (s .cell (t .end))
+
+-- every number of a list is below n
+pub data Below (n : ℕ) : List ℕ → Type 0 where
+  none : Below n []
+  also : {c : ℕ} {l : List ℕ} → c < n → Below n l → Below n (c ∷ l)

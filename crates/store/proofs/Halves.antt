@@ -1,0 +1,62 @@
+-- A directory by its halves: the last word of each, and both lent by code one after the other.
+use mathlib.Core.Path.{_≡_, sym, ap, ap₂, _∙_}
+use mathlib.Core.List.{List, [], _++_, append-nil}
+use Prim.Native.Nat.{ℕ, _+_, _-_, _<_}
+use native.Mathlib.Omega.{arith}
+use lib.ListN.{length, getD, take, drop, length-drop, take-append-drop, drop-of-length-le, List·getD-append}
+use lib.Seq.{length-take-le, take-at, drop-at, take-all}
+use borrow.Rule.Slice.PartMut.{putMid}
+use Rattle.layout.specs.Words.{halfLength, directoryLength}
+use Rattle.layout.proofs.Numbers.{halves-length}
+use Rattle.store.specs.Halves.{total}
+
+pub total-at : (dir : List ℕ) (n : ℕ) → length dir ≡ n + 1 → total dir ≡ getD dir n 0
+unfolding total
+total-at dir n l = let e : length dir - 1 ≡ n = omega arith in rw e
+
+-- the last word of the first n + 1
+pub total-first : (dir : List ℕ) (n : ℕ) → n < length dir → total (take (n + 1) dir) ≡ getD dir n 0
+total-first dir n l =
+    let long : length (take (n + 1) dir) ≡ n + 1 = length-take-le (n + 1) dir (omega arith) in
+    total-at (take (n + 1) dir) n long
+    ∙ sym (List·getD-append (take (n + 1) dir) (drop (n + 1) dir) 0 n (omega (arith, long)))
+    ∙ ap (λ (l : List ℕ). getD l n 0) (take-append-drop (n + 1) dir)
+
+-- ---- both halves, of h words each: `&d[0..h]`, then `&d[h..n]`
+
+pub two-halves : (m : ℕ) {h n : ℕ} → n ≡ directoryLength m → h ≡ halfLength m → n ≡ h + h
+two-halves m e f = omega (arith, halves-length m)
+
+module _ (d : List ℕ) (h n : ℕ) (both : n ≡ h + h) (long : length d ≡ n) where
+  pub first-lent : take (h - 0) d ≡ take h d
+  first-lent = let e : h - 0 ≡ h = omega arith in rw e
+
+  pub second-lent : take (n - h) (drop h d) ≡ drop h d
+  second-lent = take-all (n - h) (drop h d) (omega (arith, length-drop h d))
+
+  -- each has as many words
+  pub first-long : length (take (h - 0) d) ≡ h
+  first-long = length-take-le (h - 0) d (omega arith) ∙ omega arith
+
+  pub second-long : length (take (n - h) (drop h d)) ≡ h
+  second-long = ap length second-lent ∙ length-drop h d ∙ omega arith
+
+  -- the first half came back as f: the second is lent as it was, and both come back
+  module _ (f : List ℕ) (size : length f ≡ h) where
+    abbrev back : List ℕ
+    back = f ++ drop (h - 0) (drop 0 d)
+
+    pub second-next : take (n - h) (drop h back) ≡ drop h d
+    second-next =
+        let e : h - 0 ≡ h = omega arith in
+        ap (take (n - h)) (drop-at f (drop (h - 0) d) h size) ∙ ap (λ (k : ℕ). take (n - h) (drop k d)) e ∙ second-lent
+
+    pub next-long : length (take (n - h) (drop h back)) ≡ h
+    next-long = ap length second-next ∙ length-drop h d ∙ omega arith
+
+    pub both-back : (g : List ℕ) → putMid h (n - h) back g ≡ f ++ g
+    both-back g =
+        let rest = drop (h - 0) d in
+        let none : drop (n - h) (drop h back) ≡ [] =
+        ap (drop (n - h)) (drop-at f rest h size) ∙ drop-of-length-le rest {i = n - h} (omega (arith, length-drop (h - 0) d)) in
+        ap₂ (λ (x y : List ℕ). x ++ (g ++ y)) (take-at f rest h size) none ∙ ap (λ (x : List ℕ). f ++ x) (append-nil g)
