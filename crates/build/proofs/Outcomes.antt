@@ -1,6 +1,6 @@
 -- The chain of a build's refusals, link by link, and what a build leaves.
-use mathlib.Core.Path.{_≡_, refl, sym, ap, ap₂, _∙_}
-use mathlib.Core.Bool.{true, false, true≢false}
+use mathlib.Core.Path.{_≡_, refl, sym, ap, _∙_}
+use mathlib.Core.Bool.{true, false}
 use mathlib.Core.List.{List, [], _++_}
 use Prim.Native.Nat.{ℕ, _/_, _≤_}
 use lib.ListN.{length}
@@ -14,11 +14,11 @@ use Rattle.layout.specs.declared.Outcome.{Outcome}
 use Rattle.layout.specs.declared.Outcome.the-variants.{Accepted, Refused}
 use Rattle.layout.specs.Words.{entryWords, rows, directoryLength, halfLength, directoryHalf, arena, lengthsOf, layout}
 use Rattle.layout.specs.Refusals.{isAccepted, refuse, outOfBounds, badSize, badDirectory, noRoom, firstBadRow, buildOutcome}
-use Rattle.layout.specs.Calls.{ifAccepted, index, after, leaving, buildOf}
+use Rattle.layout.specs.Calls.{ifAccepted, index, after, buildOf}
 use Rattle.layout.proofs.Rows.{length-rows}
 use Rattle.layout.proofs.Chains.{of-badSize}
 use Rattle.layout.proofs.Tables.{Table, of-firstBadRow, of-build}
-use Rattle.layout.proofs.Links.{andThen, then-refused, is-accepted, rows-then}
+use Rattle.layout.proofs.Links.{andThen, then-refused, is-accepted, leaves-found, leaves-made, rows-then}
 use Rattle.build.specs.Laid.{Tested, Fillable}
 use Rattle.build.specs.Judged.{lengths}
 
@@ -86,22 +86,15 @@ module _ (r : Ruler) (table : List ℕ) (directory originals replicas : ℕ) (go
 -- numbers out of bounds
 pub says-1 : (s : Scale) (table d o r : List ℕ) → s .good ≡ false
     → after (Refused RulerOutOfBounds 0) (index d o r) ≡ buildOf s table (index d o r)
-unfolding buildOf leaving ifAccepted buildOutcome outOfBounds refuse
-says-1 s table d o r e = rw e
+unfolding buildOf buildOutcome outOfBounds refuse isAccepted
+says-1 s table d o r e = leaves-found (Refused RulerOutOfBounds 0) (index d o r) _ refl (rw e)
 
 -- ---- what is left
 
-if-refused : {A : Type 0} (o : Outcome) (x y : A) → isAccepted o ≡ false → ifAccepted o x y ≡ y
-unfolding ifAccepted isAccepted
-if-refused Accepted x y e = absurd (true≢false e)
-if-refused (Refused why d) x y e = refl
-
 module _ (s : Scale) (table d o r : List ℕ) (a : Outcome) (says : a ≡ buildOutcome s table (lengths (length d) (length o) (length r))) where
   pub left-old : isAccepted a ≡ false → after a (index d o r) ≡ buildOf s table (index d o r)
-  unfolding buildOf leaving lengthsOf
-  left-old e =
-      let made = layout s (rows table) (lengths (length d) (length o) (length r)) in
-      sym (ap (λ (x : Outcome). after x (ifAccepted x made (index d o r))) (sym says) ∙ ap (after a) (if-refused a made (index d o r) e))
+  unfolding buildOf lengthsOf
+  left-old e = leaves-found a (index d o r) _ e says
 
   module _ (fine : isAccepted a ≡ true) where
     pub accepted-table : Table s (rows table) (lengths (length d) (length o) (length r))
@@ -110,12 +103,11 @@ module _ (s : Scale) (table d o r : List ℕ) (a : Outcome) (says : a ≡ buildO
     pub left-new : (d′ o′ r′ : List ℕ) → d′ ≡ directoryHalf s Originals (rows table) ++ directoryHalf s Replicas (rows table)
         → o′ ≡ arena s Originals (rows table) (length o) → r′ ≡ arena s Replicas (rows table) (length r)
         → after a (index d′ o′ r′) ≡ buildOf s table (index d o r)
-    unfolding buildOf leaving lengthsOf layout ifAccepted
+    unfolding buildOf lengthsOf layout
     left-new d′ o′ r′ p q t =
-        let made = layout s (rows table) (lengths (length d) (length o) (length r)) in
-        let new : index d′ o′ r′ ≡ made = λ i. record { directory = p i; originals = q i; replicas = t i } in
         let yields : a ≡ Accepted = is-accepted a fine in
-        ap₂ after yields new ∙ ap (λ (x : Outcome). after x (ifAccepted x made (index d o r))) (sym yields ∙ says)
+        ap (λ (x : Outcome). after x (index d′ o′ r′)) yields
+        ∙ leaves-made (index d o r) _ (sym says ∙ yields) (λ i. record { directory = p i; originals = q i; replicas = t i })
 
 -- ---- what each half is filled with
 

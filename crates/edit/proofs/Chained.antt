@@ -1,6 +1,6 @@
 -- Chains of refusals as the code goes through them: the outcome of each edit on words that are an index, and on words that are none.
 use mathlib.Core.Path.{_≡_, refl, sym, ap, _∙_}
-use mathlib.Core.Bool.{Bool, true, false, not, _||_, true≢false}
+use mathlib.Core.Bool.{Bool, true, false, not, _||_}
 use mathlib.Core.List.{List, _∷_}
 use Prim.Native.Nat.{ℕ, _+_, _*_, _^_, _<_}
 use lib.Dec.{ltb, leb}
@@ -15,9 +15,9 @@ use Rattle.layout.specs.declared.Outcome.{Outcome}
 use Rattle.layout.specs.declared.Outcome.the-variants.{Accepted, Refused}
 use Rattle.layout.specs.Words.{entryWords, entries, Index, lengthsOf, layout}
 use Rattle.layout.specs.Refusals.{isAccepted, refuse, full, hasId, noRoom, rowTests, tableOf, addOutcome, removeOutcome, checkOutcome}
-use Rattle.layout.specs.Calls.{ifAccepted, after, leaving, addOf, removeOf, without}
+use Rattle.layout.specs.Calls.{after, addOf, removeOf, without}
 use Rattle.store.specs.TripWalk.{slotsOfTrip}
-use Rattle.layout.proofs.Links.{then-refused, is-accepted, row-then}
+use Rattle.layout.proofs.Links.{then-refused, is-accepted, leaves-found, leaves-made, row-then}
 use Rattle.layout.proofs.Tables.{RowOk, of-rowTests, to-rowTests}
 use Rattle.layout.proofs.Checked.{passed}
 use Rattle.store.proofs.TripWalkRoom.{entries-added}
@@ -74,9 +74,8 @@ remove-outcome s x i b good e = passed s x good _ ∙ rw e
 -- ---- the whole of an edit, from its outcome
 
 pub add-refused : (s : Scale) (x : Index) (t : Trip) (o : Outcome) → isAccepted o ≡ false → o ≡ addOutcome s x t → after o x ≡ addOf s x t
-unfolding addOf leaving ifAccepted isAccepted
-add-refused s x t Accepted e q = absurd (true≢false e)
-add-refused s x t (Refused why d) e q = rw (← q)
+unfolding addOf
+add-refused s x t o e q = leaves-found o x _ e q
 
 -- an opening that is refused decides it
 pub add-shut : (n : Numbers) (x : Index) (t : Trip) (why : Refusal) {o : Opened} → o ≡ openOf n x → o ≡ Shuts why
@@ -86,13 +85,12 @@ add-shut n x t why e q = add-refused (scaleOf n) x t (Refused why 0) refl (sym (
 
 pub add-accepted : (s : Scale) (x y : Index) (t : Trip) → addOutcome s x t ≡ Accepted → y ≡ layout s (t ∷ tableOf s x) (lengthsOf x)
     → after Accepted y ≡ addOf s x t
-unfolding addOf leaving ifAccepted
-add-accepted s x y t q e = rw (q, e)
+unfolding addOf
+add-accepted s x y t q e = leaves-made x _ q e
 
 pub remove-refused : (s : Scale) (x : Index) (i : ℕ) (o : Outcome) → isAccepted o ≡ false → o ≡ removeOutcome s x i → after o x ≡ removeOf s x i
-unfolding removeOf leaving ifAccepted isAccepted
-remove-refused s x i Accepted e q = absurd (true≢false e)
-remove-refused s x i (Refused why d) e q = rw (← q)
+unfolding removeOf
+remove-refused s x i o e q = leaves-found o x _ e q
 
 pub remove-shut : (n : Numbers) (x : Index) (i : ℕ) (why : Refusal) {o : Opened} → o ≡ openOf n x → o ≡ Shuts why
     → after (Refused why 0) x ≡ removeOf (scaleOf n) x i
@@ -101,5 +99,5 @@ remove-shut n x i why e q = remove-refused (scaleOf n) x i (Refused why 0) refl 
 
 pub remove-accepted : (s : Scale) (x y : Index) (i : ℕ) → removeOutcome s x i ≡ Accepted → y ≡ layout s (without i (tableOf s x)) (lengthsOf x)
     → after Accepted y ≡ removeOf s x i
-unfolding removeOf leaving ifAccepted
-remove-accepted s x y i q e = rw (q, e)
+unfolding removeOf
+remove-accepted s x y i q e = leaves-made x _ q e

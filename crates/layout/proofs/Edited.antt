@@ -1,6 +1,6 @@
 -- Edits as laws on the definitions: what an accepted edit tells, that the words after it are again an index, and that they are what a build
 -- writes for ANY table that gives the words before.
-use mathlib.Core.Path.{_≡_, sym, ap, _∙_}
+use mathlib.Core.Path.{_≡_, refl, sym, ap, _∙_}
 use mathlib.Core.Bool.{not}
 use mathlib.Core.List.{List, [], _∷_, List·Memᴰ as Mem, List·Memᴰ·head as here, List·Memᴰ·tail as there, List·Memᴰ·not-nil as not-nil}
 use Prim.Native.Nat.{ℕ, _≤_, _<_}
@@ -20,7 +20,8 @@ use Rattle.layout.specs.declared.Outcome.{Outcome}
 use Rattle.layout.specs.declared.Outcome.the-variants.{Accepted, Refused}
 use Rattle.layout.specs.Words.{words, Index, Lengths, lengthsOf, layout}
 use Rattle.layout.specs.Refusals.{full, hasId, tableOf, isIndex, indexTests, addOutcome, removeOutcome}
-use Rattle.layout.specs.Calls.{ifAccepted, after, leaving, buildOf, addOf, without, removeOf}
+use Rattle.layout.specs.Calls.{after, buildOf, addOf, without, removeOf}
+use Rattle.layout.proofs.Links.{leaves-made}
 use Rattle.layout.proofs.RowOrder.{Distinct, layout-same, entries-same}
 use Rattle.layout.proofs.Rows.{rows-words, words-le}
 use Rattle.layout.proofs.Chains.{Room, refuse-no, refuse-pass, refuse-taken, to-outOfBounds, to-badDirectory, of-noRoom, to-noRoom}
@@ -166,15 +167,11 @@ layout-indexed s fair ts n w =
 
 -- ---- demand 3: for EVERY table that gives the words at entry, the words at exit are what build writes for that table, edited
 
-leaving-accepted : (o : Outcome) (x y : Index) → o ≡ Accepted → leaving o x y ≡ after Accepted y
-unfolding leaving ifAccepted
-leaving-accepted o x y e = rw e
-
 -- what build gives for a table that it accepts
 pub build-accepted : (s : Scale) (ts : List Trip) (x : Index) → Table s ts (lengthsOf x) → buildOf s (words ts) x
     ≡ after Accepted (layout s ts (lengthsOf x))
 unfolding buildOf
-build-accepted s ts x w = leaving-accepted _ x _ (to-build s ts (lengthsOf x) w) ∙ rw rows-words
+build-accepted s ts x w = sym (leaves-made x _ (to-build s ts (lengthsOf x) w) refl) ∙ rw rows-words
 
 module _ (s : Scale) (fair : Fair s) (x : Index) (ts : List Trip) (given : Table s ts (lengthsOf x)) (e : x ≡ layout s ts (lengthsOf x)) where
   pub table-in : In (tableOf s x) ts
@@ -213,7 +210,7 @@ module _ (s : Scale) (fair : Fair s) (x : Index) (ts : List Trip) (given : Table
     pub added-is-built : addOf s x t ≡ buildOf s (words (t ∷ ts)) x
     unfolding addOf
     added-is-built =
-        leaving-accepted _ x _ (to-add s x t h) ∙ ap (after Accepted) (added-same (lengthsOf x)) ∙ sym (build-accepted s (t ∷ ts) x added-more)
+        sym (leaves-made x _ (to-add s x t h) refl) ∙ ap (after Accepted) (added-same (lengthsOf x)) ∙ sym (build-accepted s (t ∷ ts) x added-more)
 
   module _ (i : ℕ) (a : removeOutcome s x i ≡ Accepted) where
     pub removed-same : (n : Lengths) → layout s (without i (tableOf s x)) n ≡ layout s (without i ts) n
@@ -224,5 +221,5 @@ module _ (s : Scale) (fair : Fair s) (x : Index) (ts : List Trip) (given : Table
     pub removed-is-built : removeOf s x i ≡ buildOf s (words (without i ts)) x
     unfolding removeOf
     removed-is-built =
-        leaving-accepted _ x _ a ∙ ap (after Accepted) (removed-same (lengthsOf x))
+        sym (leaves-made x _ a refl) ∙ ap (after Accepted) (removed-same (lengthsOf x))
         ∙ sym (build-accepted s (without i ts) x (without-table s i ts (lengthsOf x) given))

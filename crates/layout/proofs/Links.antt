@@ -11,7 +11,7 @@ use Rattle.layout.specs.declared.Outcome.{Outcome}
 use Rattle.layout.specs.declared.Outcome.the-variants.{Accepted, Refused}
 use Rattle.layout.specs.Words.{Index}
 use Rattle.layout.specs.Refusals.{isAccepted, refuse, timeTests, rowTests, firstBadRow, indexTests, checkOutcome}
-use Rattle.layout.specs.Calls.{ifAccepted}
+use Rattle.layout.specs.Calls.{ifAccepted, after, leaving}
 
 -- the first outcome where it is a refusal, and else the rest
 abbrev pub andThen : (first rest : Outcome) → Outcome
@@ -32,6 +32,16 @@ pub is-accepted : (o : Outcome) → isAccepted o ≡ true → o ≡ Accepted
 unfolding isAccepted
 is-accepted Accepted e = refl
 is-accepted (Refused why d) e = absurd (false≢true e)
+
+-- a call that writes, by its outcome: refused, it leaves the words that it found; accepted, those that it made
+pub leaves-found : (o : Outcome) {said : Outcome} (x y : Index) → isAccepted o ≡ false → o ≡ said → after o x ≡ leaving said x y
+unfolding leaving ifAccepted isAccepted
+leaves-found Accepted x y e q = absurd (true≢false e)
+leaves-found (Refused why d) x y e q = rw (← q)
+
+pub leaves-made : {said : Outcome} (x y : Index) {z : Index} → said ≡ Accepted → z ≡ y → after Accepted z ≡ leaving said x y
+unfolding leaving ifAccepted
+leaves-made x y e q = rw (e, q)
 
 then-then : (a b c : Outcome) → andThen (andThen a b) c ≡ andThen a (andThen b c)
 unfolding ifAccepted
