@@ -23,7 +23,7 @@ use Rattle.store.specs.Entries.{ids}
 use Rattle.walk.specs.Part.{Listed}
 use Rattle.ask.specs.Chain.{answeredAs, listedOf, answerOf}
 use Rattle.walk.proofs.Written.{ids-length}
-use Rattle.ask.proofs.Judging.{Judged}
+use Rattle.ask.proofs.QuestionJudged.{Judged}
 
 -- ---- the two endings
 

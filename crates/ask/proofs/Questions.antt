@@ -24,8 +24,8 @@ use Rattle.layout.specs.Answers.{matches, answer}
 use Rattle.layout.specs.Refusals.{tableOf, isIndex, OnRuler}
 use Rattle.layout.proofs.Tables.{Table}
 use Rattle.layout.proofs.Indexes.{of-isIndex, back-length}
-use Rattle.layout.proofs.Edits.{ids-differ, ids-in}
-use Rattle.layout.proofs.Reading.{originals-laid}
+use Rattle.layout.proofs.SortedLists.{ids-differ, ids-in}
+use Rattle.layout.proofs.ByDirectory.{originals-laid}
 use Rattle.store.specs.Entries.{ids}
 use Rattle.plan.specs.declared.bounds.Bounds.{Bounds}
 use Rattle.plan.specs.declared.range.Plan.{Plan}

@@ -1,3 +1,3 @@
 -- What the contracts inside a question say: its judgement and its chain.
-pub mod Judged
+pub mod QuestionJudged
 pub mod Chain

@@ -10,7 +10,7 @@ use trip::relationship_of;
 ghost use mathlib.Core.Path.{_≡_};
 ghost use mathlib.Core.Bool.{true};
 ghost use Rattle.ruler.specs.Ruler.{inBounds, scale};
-ghost use Rattle.ask.specs.Judged.{judgedOf};
+ghost use Rattle.ask.specs.QuestionJudged.{judgedOf};
 
 pub enum Judgement {
     Fit(Question),

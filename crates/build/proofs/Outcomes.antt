@@ -19,8 +19,8 @@ use Rattle.layout.proofs.Rows.{length-rows}
 use Rattle.layout.proofs.Chains.{of-badSize}
 use Rattle.layout.proofs.Tables.{Table, of-firstBadRow, of-build}
 use Rattle.layout.proofs.Links.{andThen, then-refused, is-accepted, leaves-found, leaves-made, rows-then}
-use Rattle.build.specs.Laid.{Tested, Fillable}
-use Rattle.build.specs.Judged.{lengths}
+use Rattle.build.specs.HalfBuilt.{Tested, Fillable}
+use Rattle.build.specs.RowsJudged.{lengths}
 
 -- ---- the chain
 

@@ -1,4 +1,4 @@
 -- What the contracts inside a build say: entries placed, a half laid out, rows judged.
 pub mod Placed
-pub mod Laid
-pub mod Judged
+pub mod HalfBuilt
+pub mod RowsJudged

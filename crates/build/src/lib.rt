@@ -21,7 +21,7 @@ ghost use mathlib.Core.Bool.{true};
 ghost use Rattle.ruler.specs.Ruler.{inBounds, scale, scaleOf};
 ghost use Rattle.layout.specs.Refusals.{buildOutcome};
 ghost use Rattle.layout.specs.Calls.{index, after, buildOf};
-ghost use Rattle.build.specs.Judged.{lengths};
+ghost use Rattle.build.specs.RowsJudged.{lengths};
 
 // What a build says, for a directory and arenas of these lengths: 2, 3, the first bad row, 7. Nothing is written.
 fn judged(

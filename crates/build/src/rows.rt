@@ -20,8 +20,8 @@ ghost use Rattle.ruler.specs.Ruler.{mostTrips, inBounds, scale};
 ghost use Rattle.layout.specs.Words.{entryWords, tripAt, rows};
 ghost use Rattle.layout.specs.Refusals.{hasId, noRoom, partitionsHolding, rowTests, firstBadRow};
 ghost use Rattle.store.specs.Ids.{idsDiffer};
-ghost use Rattle.build.specs.Laid.{Tested};
-ghost use Rattle.build.specs.Judged.{rowsBack, lengths};
+ghost use Rattle.build.specs.HalfBuilt.{Tested};
+ghost use Rattle.build.specs.RowsJudged.{rowsBack, lengths};
 
 // Whether a row before row i has the id.
 fn id_before(table: &[u32], i: usize, id: u32) -> bool

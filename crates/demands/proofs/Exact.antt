@@ -26,8 +26,8 @@ use Rattle.layout.specs.Refusals.{windowTests, IndexOf, runOutcome, checkOutcom
 use Rattle.layout.specs.Calls.{ifAccepted, leaving, buildOf, asked, askOf, censusOf, runOf, runFromOf}
 use Rattle.layout.proofs.Chains.{has-room, no-room, of-room, of-no-room}
 use Rattle.layout.proofs.Indexes.{given-table, given-indexed, given-fair}
-use Rattle.layout.proofs.Edits.{idOf, of-ids, to-ids, answer-ascends}
-use Rattle.layout.proofs.Edited.{to-indexTests}
+use Rattle.layout.proofs.SortedLists.{idOf, of-ids, to-ids, answer-ascends}
+use Rattle.layout.proofs.EditsBuild.{to-indexTests}
 use Rattle.layout.proofs.Viewed.{census-accepted, run-accepted, run-from-accepted}
 use Rattle.layout.proofs.Given.{given-census, given-run, given-run-from, given-outcome, given-asked}
 use Rattle.layout.proofs.Reordered.{reordered-built}

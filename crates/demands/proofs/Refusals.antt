@@ -25,7 +25,7 @@ use Rattle.layout.specs.Refusals.{refusalNumber, numberOf, refuse, timeTests, r
 use Rattle.layout.specs.Calls.{ifAccepted, leaving, buildOf, addOf, removeOf, askOf, censusOf, noCensus, runOf}
 use Rattle.layout.proofs.Chains.{refused-not}
 use Rattle.layout.proofs.Indexes.{to-isIndex, given-indexed, given-fair, index-of-some}
-use Rattle.layout.proofs.Edited.{to-indexTests}
+use Rattle.layout.proofs.EditsBuild.{to-indexTests}
 use Rattle.layout.proofs.Checked.{checked, check-words, eight-not-later, other-link}
 
 -- ---- "A refusal .. every buffer stays as found"

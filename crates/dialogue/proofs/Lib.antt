@@ -1,3 +1,3 @@
 -- The laws of the session's replies and turns.
 pub mod Replies
-pub mod Turns
+pub mod SessionTurns

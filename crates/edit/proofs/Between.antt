@@ -22,13 +22,13 @@ use Rattle.layout.proofs.RowOrder.{Distinct, slot-sorted}
 use Rattle.layout.proofs.Chains.{Room}
 use Rattle.layout.proofs.Indexes.{Indexed}
 use Rattle.store.proofs.TripWalk.{those, walk-once, walk-below}
-use Rattle.layout.proofs.Slots.{inSlot}
+use Rattle.layout.proofs.SlotMembers.{inSlot}
 use Rattle.store.specs.Slots.{Holds}
 use Rattle.store.specs.Parts.{arenaOf}
 use Rattle.store.specs.Ordered.{noTrip}
-use Rattle.store.proofs.Laid.{laid-holds, holds-laid}
-use Rattle.edit.specs.Places.{Orderly}
-use Rattle.edit.specs.Halves.{HalfOf}
+use Rattle.store.proofs.LayoutHeld.{laid-holds, holds-laid}
+use Rattle.edit.specs.SlotFound.{Orderly}
+use Rattle.edit.specs.HalfEdited.{HalfOf}
 use Rattle.edit.proofs.Halfway.{among-those, few-once, Spots, halfway, spot-among, halfway-start, halfway-end, spot-in, halfway-here}
 
 -- the room that the whole table has is in this half's arena

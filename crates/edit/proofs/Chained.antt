@@ -25,7 +25,7 @@ use Rattle.verify.specs.declared.Opened.{Opened}
 use Rattle.verify.specs.declared.Opened.the-variants.{Refused as Shuts}
 use Rattle.verify.specs.Opening.{openOf}
 use Rattle.verify.proofs.Opening.{shut-for-all}
-use Rattle.edit.proofs.Reading.{Shown}
+use Rattle.edit.proofs.IndexRead.{Shown}
 
 -- a trip that passes its tests
 pub row-taken : (s : Scale) (ts : List Trip) (t : Trip) (o : Outcome) → o ≡ rowTests s ts t 0 Accepted → isAccepted o ≡ true → RowOk s ts t

@@ -15,18 +15,18 @@ use Rattle.layout.specs.Words as laid
 use Rattle.layout.specs.Refusals.{tableOf}
 use Rattle.store.specs.TripWalk.{slotsOfTrip}
 use Rattle.layout.proofs.Rows.{words-le, words-add}
-use Rattle.layout.proofs.Edited.{Addable, of-add, added-table}
+use Rattle.layout.proofs.EditsBuild.{Addable, of-add, added-table}
 use Rattle.store.proofs.TripWalk.{those}
-use Rattle.layout.proofs.Slots.{inSlot}
+use Rattle.layout.proofs.SlotMembers.{inSlot}
 use Rattle.layout.proofs.RowOrder.{slot-sorted}
-use Rattle.layout.proofs.SlotEdits.{slot-gets, slot-same-added, slot-longer, slot-fresh}
+use Rattle.layout.proofs.SlotEdited.{slot-gets, slot-same-added, slot-longer, slot-fresh}
 use Rattle.layout.proofs.MostEntries.{entries-most}
 use Rattle.store.specs.Slots.{flat, inserted, insertedIn, Holds}
 use Rattle.store.specs.Ordered.{preceding}
-use Rattle.store.proofs.Laid.{flat-upTo}
+use Rattle.store.proofs.LayoutHeld.{flat-upTo}
 use Rattle.store.proofs.Found.{insert-place}
-use Rattle.edit.specs.Places.{placeIn, Vacant}
-use Rattle.edit.specs.Halves.{HalfOf, Adding}
+use Rattle.edit.specs.SlotFound.{placeIn, Vacant}
+use Rattle.edit.specs.HalfEdited.{HalfOf, Adding}
 use Rattle.edit.proofs.Halfway.{Spots, halfway-turn, halfway-most}
 use Rattle.edit.proofs.Between.{room-in, Passing, slotsAfter, spots, start, long, inside, unchanged, belongs, orderly, end}
 

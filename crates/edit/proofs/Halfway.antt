@@ -17,7 +17,7 @@ use Rattle.trip.specs.declared.Trip.{Trip}
 use Rattle.store.proofs.TripWalk.{those}
 use Rattle.store.specs.TripWalk.{Below, none, also}
 use Rattle.store.specs.Slots.{flat}
-use Rattle.store.proofs.Laid.{flat-upTo, changed-slot}
+use Rattle.store.proofs.LayoutHeld.{flat-upTo, changed-slot}
 
 -- ---- which slots are among some spots
 

@@ -8,7 +8,7 @@ pub mod Between
 pub mod Grown
 pub mod Shrunk
 -- the tests, and the whole index
-pub mod Reading
+pub mod IndexRead
 pub mod Chained
 pub mod Removed
-pub mod Lent
+pub mod HalfLent

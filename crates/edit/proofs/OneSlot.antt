@@ -15,7 +15,7 @@ use Rattle.store.specs.Parts.{PartThere, partIn}
 use Rattle.store.proofs.Parts as parts
 use Rattle.store.proofs.Parts.{part-words}
 use Rattle.store.proofs.Found.{place-most, found-place}
-use Rattle.edit.specs.Places.{placeIn, Orderly, Vacant, Present}
+use Rattle.edit.specs.SlotFound.{placeIn, Orderly, Vacant, Present}
 
 module _ (dir arena : List ℕ) (ls : List (List Trip)) (half : Half) (slot : ℕ) (o : Orderly dir arena ls half slot) where
   pub slot-there : PartThere dir arena slot (slot + 1)

@@ -20,7 +20,7 @@ use Rattle.layout.specs.Calls.{after, removeOf}
 use Rattle.layout.proofs.Rows.{getD-rows}
 use Rattle.store.specs.Ordered.{noTrip}
 use Rattle.edit.specs.Search.{placeOfId}
-use Rattle.edit.proofs.Reading.{Shown, has-place, place-id}
+use Rattle.edit.proofs.IndexRead.{Shown, has-place, place-id}
 use Rattle.edit.proofs.Chained.{remove-outcome, remove-refused}
 
 short : (n : ℕ) (l : List Trip) (i : ℕ) → i < length (take n l) → i < n

@@ -12,14 +12,14 @@ use Rattle.layout.specs.Refusals.{tableOf}
 use Rattle.layout.specs.Calls.{without}
 use Rattle.store.specs.TripWalk.{slotsOfTrip}
 use Rattle.layout.proofs.RowOrder.{Distinct, slot-sorted, slot-distinct}
-use Rattle.layout.proofs.Edited.{Removable, of-remove}
+use Rattle.layout.proofs.EditsBuild.{Removable, of-remove}
 use Rattle.store.proofs.TripWalk.{those}
-use Rattle.layout.proofs.SlotEdits.{slot-without, slot-has, slot-same-removed}
+use Rattle.layout.proofs.SlotEdited.{slot-without, slot-has, slot-same-removed}
 use Rattle.store.specs.Slots.{removed, removedIn, Holds}
 use Rattle.store.specs.Ordered.{preceding}
 use Rattle.store.proofs.Found.{remove-place}
-use Rattle.edit.specs.Places.{placeIn, Present}
-use Rattle.edit.specs.Halves.{HalfOf, Removing}
+use Rattle.edit.specs.SlotFound.{placeIn, Present}
+use Rattle.edit.specs.HalfEdited.{HalfOf, Removing}
 use Rattle.edit.proofs.Halfway.{halfway-turn}
 use Rattle.edit.proofs.Between.{Passing, slotsAfter, spots, start, unchanged, belongs, orderly, end}
 

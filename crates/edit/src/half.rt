@@ -12,7 +12,7 @@ ghost use Rattle.layout.specs.Words.{Index};
 ghost use Rattle.layout.specs.Refusals.{tableOf};
 ghost use Rattle.layout.specs.Calls.{without};
 ghost use Rattle.store.specs.TripWalk.{slotsOfTrip};
-ghost use Rattle.edit.specs.Halves.{HalfOf, Adding, Removing};
+ghost use Rattle.edit.specs.HalfEdited.{HalfOf, Adding, Removing};
 
 // Puts a trip into each of its slots.
 fn add_to_slots(half: Half, dir: &mut [u32], arena: &mut [u32], spots: &[u32], t: Trip)

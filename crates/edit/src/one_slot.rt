@@ -9,7 +9,7 @@ ghost use mathlib.Core.Path.{_≡_};
 ghost use mathlib.Core.List.{List};
 ghost use Rattle.trip.specs.declared.Trip.{Trip};
 ghost use Rattle.store.specs.Slots.{insertedIn, removedIn, Holds};
-ghost use Rattle.edit.specs.Places.{placeIn, Orderly, Vacant, Present};
+ghost use Rattle.edit.specs.SlotFound.{placeIn, Orderly, Vacant, Present};
 
 // Where a trip stands in a slot's order: the slot's part of the arena is searched, between two words of the directory.
 fn place_in(half: Half, dir: &[u32], arena: &[u32], slot: usize, t: Trip) -> usize

@@ -24,7 +24,7 @@ ghost use Rattle.layout.specs.Refusals.{partitionsHolding, rowTests, checkOutco
 ghost use Rattle.layout.specs.Calls.{index};
 ghost use Rattle.store.specs.TripWalk.{slotsOfTrip};
 ghost use Rattle.store.specs.Passes.{mostEntries};
-ghost use Rattle.store.specs.Places.{mostSlots};
+ghost use Rattle.store.specs.TripSlots.{mostSlots};
 ghost use Rattle.edit.specs.Search.{placeOfId};
 
 // The place of the trip of an id among the entries of a part, or their number where none has it.

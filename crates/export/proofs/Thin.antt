@@ -13,7 +13,7 @@ use Rattle.layout.specs.Refusals.{isAccepted, numberOf, detailOf}
 use Rattle.layout.specs.Calls.{After, after, Asked, asked, ifAccepted}
 use Rattle.view.specs.declared.Place.{Place}
 use Rattle.view.specs.Views.{placeOf}
-use Rattle.view.proofs.Entries.{run-ends}
+use Rattle.view.proofs.ViewEntries.{run-ends}
 use Rattle.export.specs.declared.Said.{Said}
 use Rattle.export.specs.Said.{saidOf, left, leftOf, told, toldOf, counted, shown, firstOfReplicas, arenaOf, runSaid}
 

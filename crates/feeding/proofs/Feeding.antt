@@ -15,7 +15,7 @@ use Rattle.text.specs.Lines.{unlessEmpty, linesOf}
 use Rattle.text.proofs.LineSteps.{linesAfter, after-nothing, after-all, after-newline, after-byte}
 use Rattle.dialogue.specs.Session.{State, state, Turn, turnOf, writesFor, start, sessionOf}
 use Rattle.feeding.specs.Feeding.{lineKept, Held, held, Feed, leaving, begun, lineDone, byteKept, byteOf, feedOf, endOf, runOf, Reached}
-use Rattle.dialogue.proofs.Turns.{cut-turn}
+use Rattle.dialogue.proofs.SessionTurns.{cut-turn}
 
 -- ---- Chunks one after another
 

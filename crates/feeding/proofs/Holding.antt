@@ -25,7 +25,7 @@ use Rattle.feeding.specs.declared.Standing.{Standing}
 use Rattle.feeding.specs.declared.Fed.{Fed}
 use Rattle.dialogue.specs.Session.{mostReply, state, turnOf, Done}
 use Rattle.feeding.specs.Feeding.{lineKept, Held, held, Feed, leaving, lineDone, byteKept, byteOf, feedOf, endOf, heldBy, Sound, Left}
-use Rattle.dialogue.proofs.Turns.{done-keeps}
+use Rattle.dialogue.proofs.SessionTurns.{done-keeps}
 
 -- ---- What is kept of a line
 

@@ -6,7 +6,7 @@ use Rattle.lists.specs.Lists.{joined}
 use Rattle.lists.proofs.Members.{In, pairs-append, pairs-joined}
 use Rattle.trip.specs.declared.Trip.{Trip}
 use Rattle.layout.proofs.RowOrder.{Distinct}
-use Rattle.layout.proofs.Slots.{same-id}
+use Rattle.layout.proofs.SlotMembers.{same-id}
 
 module _ {ts : List Trip} (d : Distinct ts) where
   pub apart-append : {l k : List Trip} → In l ts → In k ts → Distinct l → Distinct k → ((x : Trip) → Mem x l → Mem x k → ⊥) → Distinct (l ++ k)

@@ -17,7 +17,7 @@ use Rattle.layout.specs.Refusals.{refusalNumber, numberOf, detailOf, ref
 use Rattle.layout.specs.Calls.{ifAccepted}
 use Rattle.layout.proofs.Chains.{refuse-pass, refuse-taken, to-outOfBounds, to-badDirectory}
 use Rattle.layout.proofs.Indexes.{Indexed}
-use Rattle.layout.proofs.Edited.{of-indexTests}
+use Rattle.layout.proofs.EditsBuild.{of-indexTests}
 use Rattle.layout.proofs.Links.{index-then}
 
 -- where the check is refused, so is every call on these words, for the same reason

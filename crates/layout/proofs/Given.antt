@@ -28,8 +28,8 @@ use Rattle.layout.specs.Calls.{asked, ifAccepted, askOf}
 use Rattle.layout.proofs.Chains.{refuse-pass, window-pass}
 use Rattle.layout.proofs.RowOrder.{Distinct, slotTrips-same, before-same, entries-same, length-same}
 use Rattle.layout.proofs.Indexes.{given-table, given-indexed}
-use Rattle.layout.proofs.Edits.{idOf, answer-same}
-use Rattle.layout.proofs.Edited.{to-indexTests, table-in, in-table}
+use Rattle.layout.proofs.SortedLists.{idOf, answer-same}
+use Rattle.layout.proofs.EditsBuild.{to-indexTests, table-in, in-table}
 
 -- ---- two tables with the same rows, no id twice in either
 

@@ -23,7 +23,7 @@ use Rattle.layout.specs.Words.{words, rows, partitions, halfLength, dire
 use Rattle.layout.specs.Refusals.{isAccepted, buildOutcome, IndexOf, IndexOfSome, tableOf, sameIndex, gives, isIndex}
 use Rattle.layout.proofs.Numbers.{halves-length}
 use Rattle.layout.proofs.RowOrder.{Distinct, layout-same, entries-same, length-same}
-use Rattle.layout.proofs.Slots.{of-originals, to-originals, originals-distinct}
+use Rattle.layout.proofs.SlotMembers.{of-originals, to-originals, originals-distinct}
 use Rattle.layout.proofs.Rows.{rows-words, rows-front, words-length}
 use Rattle.layout.proofs.Chains.{Room, of-accepted}
 use Rattle.layout.proofs.Tables.{Table, of-build, to-build}

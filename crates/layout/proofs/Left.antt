@@ -24,7 +24,7 @@ use Rattle.layout.proofs.Rows.{rows-words, words-rows, words-cons}
 use Rattle.layout.proofs.Chains.{refuse-pass, of-hasId, has-room}
 use Rattle.layout.proofs.Tables.{of-build}
 use Rattle.layout.proofs.Indexes.{layout-lengths, given-table, given-indexed, given-fair}
-use Rattle.layout.proofs.Edited.{to-indexTests, of-add, in-table, added-is-built, removed-is-built}
+use Rattle.layout.proofs.EditsBuild.{to-indexTests, of-add, in-table, added-is-built, removed-is-built}
 use Rattle.layout.proofs.Given.{answer-count, given-outcome, given-asked}
 
 -- words that are the index of the table, in buffers as long as those of x

@@ -13,7 +13,7 @@ pub mod Subdivisions
 pub mod Sides
 pub mod Keys
 pub mod RowOrder
-pub mod Slots
+pub mod SlotMembers
 pub mod Apart
 pub mod Counted
 pub mod Reported
@@ -23,17 +23,17 @@ pub mod Links
 pub mod OneRow
 pub mod Tables
 pub mod Indexes
-pub mod Local
+pub mod LocalConditions
 pub mod Checked
 -- an index read and viewed
-pub mod Reading
+pub mod ByDirectory
 pub mod Totals
 pub mod Viewed
 -- edits
-pub mod Edits
-pub mod SlotEdits
+pub mod SortedLists
+pub mod SlotEdited
 pub mod MostEntries
-pub mod Edited
+pub mod EditsBuild
 pub mod Given
 pub mod Left
 pub mod Reordered

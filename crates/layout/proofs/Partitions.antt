@@ -8,7 +8,7 @@ use native.Mathlib.Omega.{arith}
 use lib.Dec.{T, leb, eqb, leb→le, le→leb, eqb→eq, eqb-refl, T-not}
 use Rattle.lists.proofs.Tests.{of-and, to-and}
 use Rattle.ruler.specs.Ruler.{Scale, cellUp}
-use Rattle.ruler.proofs.Levels.{up-half, up-bottom, up-lt}
+use Rattle.ruler.proofs.CellLevels.{up-half, up-bottom, up-lt}
 use Rattle.ruler.proofs.Fair.{Fair}
 use Rattle.trip.specs.declared.Trip.{Trip}
 use Rattle.layout.specs.Stored.{firstCell, lastCell, within, holds, holdsTrip, isOriginal, isIn}

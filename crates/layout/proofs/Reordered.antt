@@ -17,10 +17,10 @@ use Rattle.layout.specs.declared.Outcome.the-variants.{Accepted}
 use Rattle.layout.specs.Words.{entryWords, rows, Reordered, Index, lengthsOf}
 use Rattle.layout.specs.Calls.{after, leaving, buildOf, without}
 use Rattle.layout.proofs.RowOrder.{OtherId, Distinct, entries-same, layout-same}
-use Rattle.layout.proofs.Slots.{same-id}
+use Rattle.layout.proofs.SlotMembers.{same-id}
 use Rattle.layout.proofs.Rows.{words-rows, length-rows}
 use Rattle.layout.proofs.Tables.{Table, of-build}
-use Rattle.layout.proofs.Edited.{of-without, to-without, without-distinct, build-accepted}
+use Rattle.layout.proofs.EditsBuild.{of-without, to-without, without-distinct, build-accepted}
 
 -- ---- a list of as many rows as a table has, with the same members, has no id twice either
 

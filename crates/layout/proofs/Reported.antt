@@ -9,7 +9,7 @@ use native.Mathlib.Decide.{decLt}
 use lib.Dec.{T, leb, eqb, leb→le, le→leb, eqb→eq, eqb-refl}
 use Rattle.lists.proofs.Tests.{of-and, to-and, of-or, or-left, or-right}
 use Rattle.ruler.specs.Ruler.{cellUp}
-use Rattle.ruler.proofs.Levels.{up-mono, up-from, up-to}
+use Rattle.ruler.proofs.CellLevels.{up-mono, up-from, up-to}
 use Rattle.layout.specs.Stored.{holds}
 use Rattle.layout.proofs.Partitions.{Once, once, holds-within, of-within}
 

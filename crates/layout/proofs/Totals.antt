@@ -18,7 +18,7 @@ use Rattle.layout.specs.declared.Subdivision.{Subdivision}
 use Rattle.layout.specs.Stored.{partitionsAt, subdivisionOf}
 use Rattle.layout.specs.Words.{partitions, partitionNumber, slotNumber, slotTrips, slot, entriesBefore, entries}
 use Rattle.layout.specs.Answers.{levelCount}
-use Rattle.layout.proofs.Reading.{slot-numbered, slots-apart, before-more}
+use Rattle.layout.proofs.ByDirectory.{slot-numbered, slots-apart, before-more}
 
 -- the entries of the first n partitions of a level, in one subdivision
 unfoldable pub firstRuns : Scale → List Trip → (L : ℕ) → Subdivision → (n : ℕ) → ℕ

@@ -17,7 +17,7 @@ use Rattle.layout.specs.Refusals.{refuse, noSuchSlot, tableOf, checkOutc
 use Rattle.layout.specs.Calls.{ifAccepted, noCensus, censusOf, runOf, runFromOf}
 use Rattle.layout.proofs.Chains.{refuse-no}
 use Rattle.layout.proofs.Indexes.{Indexed}
-use Rattle.layout.proofs.Edited.{of-indexTests}
+use Rattle.layout.proofs.EditsBuild.{of-indexTests}
 use Rattle.layout.proofs.Checked.{refused-for-all, passed}
 
 -- what is given where the outcome o is accepted, and where it is refused

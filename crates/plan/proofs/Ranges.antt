@@ -3,7 +3,7 @@ use Prim.Native.Nat.{ℕ, _^_, _≤_, _<_}
 use native.Mathlib.Omega.{arith}
 use lib.Pow.{pow-pos, pow-mono}
 use Rattle.ruler.specs.Ruler.{deepest, cellUp}
-use Rattle.ruler.proofs.Levels.{up-mono, up-lt}
+use Rattle.ruler.proofs.CellLevels.{up-mono, up-lt}
 use Rattle.layout.specs.Words.{partitions, partitionNumber, halfLength}
 use Rattle.plan.specs.declared.range.Kind.{Kind}
 use Rattle.plan.specs.declared.range.Kind.the-variants.{Starting, Ending, Crossing}

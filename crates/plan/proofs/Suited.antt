@@ -9,7 +9,7 @@ use lib.Dec.{T, leb→le, le→leb, ltb→lt, eqb→eq}
 use Rattle.lists.proofs.Tests.{of-and, to-and}
 use Rattle.ruler.specs.declared.Time.{Time}
 use Rattle.ruler.specs.Ruler.{Scale, deepest, before, sameTime, noLater, cellOf}
-use Rattle.ruler.proofs.Levels.{up-bottom}
+use Rattle.ruler.proofs.CellLevels.{up-bottom}
 use Rattle.ruler.proofs.Fair.{Fair}
 use Rattle.trip.specs.declared.Trip.{Trip}
 use Rattle.trip.specs.declared.Window.{Window}

@@ -16,7 +16,7 @@ use Rattle.lists.proofs.Members.{of-keep, of-sort, of-joined}
 use Rattle.lists.proofs.Joined.{joined-add}
 use Rattle.lists.proofs.Kept.{keep-append, keep-all}
 use Rattle.ruler.specs.Ruler.{Scale, cellUp, nextCell, begins}
-use Rattle.ruler.proofs.Levels.{up-mono, up-from, up-to}
+use Rattle.ruler.proofs.CellLevels.{up-mono, up-from, up-to}
 use Rattle.trip.specs.declared.Trip.{Trip}
 use Rattle.layout.specs.declared.Half.{Half}
 use Rattle.layout.specs.declared.Half.the-variants.{Originals, Replicas}

@@ -13,7 +13,7 @@ use Rattle.lists.proofs.Tests.{of-and, to-and, or-left, or-right}
 use Rattle.lists.proofs.Members.{In, of-keep, to-keep, of-sort, to-sort, of-joined, to-joined, pairs-keep, pairs-sort}
 use Rattle.lists.proofs.Kept.{keep-joined}
 use Rattle.ruler.specs.Ruler.{Scale, cellUp}
-use Rattle.ruler.proofs.Levels.{up-mono, up-from}
+use Rattle.ruler.proofs.CellLevels.{up-mono, up-from}
 use Rattle.ruler.proofs.Fair.{Fair}
 use Rattle.trip.specs.declared.Trip.{Trip}
 use Rattle.layout.specs.declared.Half.{Half}

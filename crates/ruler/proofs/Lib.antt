@@ -1,6 +1,6 @@
 -- The laws of levels and of scales.
-pub mod Levels
+pub mod CellLevels
 pub mod Fair
-pub mod Judging
+pub mod RulerMade
 pub mod Shift
 pub mod Small

@@ -17,7 +17,7 @@ use Rattle.layout.specs.declared.Subdivision.{Subdivision}
 use Rattle.layout.specs.Words.{entryWords, tripAt, order, rows}
 use Rattle.layout.specs.Calls.{without}
 use Rattle.layout.proofs.RowOrder.{OtherId, Distinct, slot-order, order-apart}
-use Rattle.layout.proofs.Slots.{same-id}
+use Rattle.layout.proofs.SlotMembers.{same-id}
 use Rattle.layout.proofs.Rows.{length-rows, getD-rows}
 use Rattle.store.specs.Slots.{inserted, removed}
 use Rattle.store.specs.Ordered.{preceding, noTrip}

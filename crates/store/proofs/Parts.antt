@@ -15,7 +15,7 @@ use Rattle.ruler.specs.Ruler.{Scale}
 use Rattle.trip.specs.declared.Trip.{Trip}
 use Rattle.layout.specs.declared.Half.{Half}
 use Rattle.layout.specs.Words.{entryWords, words, rows, partitions, slot}
-use Rattle.layout.proofs.Reading.{LaidFrom, slots-rise, slots-room, slots-part}
+use Rattle.layout.proofs.ByDirectory.{LaidFrom, slots-rise, slots-room, slots-part}
 use Rattle.layout.proofs.Rows.{words-add, words-le, words-append, words-length, rows-words}
 use Rattle.store.specs.Slots.{flat, startsFrom, Holds}
 use Rattle.store.specs.Parts.{partWords, PartThere, partInside, partIn}

@@ -18,12 +18,12 @@ use Rattle.layout.specs.Words.{entryWords, words, rows, entries, Index}
 use Rattle.layout.specs.Refusals.{IndexOf, tableOf, rowTests, addOutcome, Fits}
 use Rattle.layout.specs.Calls.{without, removeOf}
 use Rattle.layout.proofs.RowOrder.{Distinct, entries-same}
-use Rattle.layout.proofs.Slots.{same-id}
+use Rattle.layout.proofs.SlotMembers.{same-id}
 use Rattle.layout.proofs.Rows.{rows-words}
 use Rattle.layout.proofs.Tables.{of-rowTests}
 use Rattle.layout.proofs.Indexes.{given-table, given-indexed}
 use Rattle.store.proofs.TripWalkRoom.{entries-added}
-use Rattle.layout.proofs.Edited.{to-add, of-without, to-without, without-distinct, without-shorter, table-in}
+use Rattle.layout.proofs.EditsBuild.{to-add, of-without, to-without, without-distinct, without-shorter, table-in}
 use Rattle.layout.proofs.Given.{given-length, given-entries}
 use Rattle.layout.proofs.Left.{removed-left, remove-accepted}
 

@@ -15,7 +15,7 @@ use borrow.Author.Tests.{eqb-true, eqb-false, eq-eqb, ne-eqb, lt-ltb, le-ltb}
 use Rattle.lists.specs.Lists.{consIf, keep}
 use Rattle.lists.proofs.Tests.{of-and, to-and, of-or, or-left, or-right}
 use Rattle.ruler.specs.Ruler.{Scale, cellUp}
-use Rattle.ruler.proofs.Levels.{up-half, up-bottom}
+use Rattle.ruler.proofs.CellLevels.{up-half, up-bottom}
 use Rattle.trip.specs.declared.Trip.{Trip}
 use Rattle.layout.specs.declared.Half.{Half}
 use Rattle.layout.specs.declared.Half.the-variants.{Originals, Replicas}
@@ -24,7 +24,7 @@ use Rattle.layout.specs.Words.{partitions, partitionNumber, levelOf, placeOf, s
 use Rattle.store.specs.TripWalk.{inHalf, visit, walk, slotsOf, slotsOfTrip, Below, none, also}
 use Rattle.layout.proofs.Partitions.{width-step, of-within, to-within, holds-within, holds-parent}
 use Rattle.layout.proofs.Numbers.{numbered, place-lt, number-place}
-use Rattle.layout.proofs.Slots.{inSlot}
+use Rattle.layout.proofs.SlotMembers.{inSlot}
 
 -- ---- which partitions of a level lie in a..b: lo .. hi - 1
 pub record Covered (m L a b lo hi : ℕ) : Type 0 where

@@ -22,7 +22,7 @@ use Rattle.layout.specs.Refusals.{partitionsHolding}
 use Rattle.store.specs.TripWalk.{slotsOfTrip, Below, none, also}
 use Rattle.layout.proofs.Counted.{all-entries}
 use Rattle.store.proofs.TripWalk.{those, walk-once, walk-below}
-use Rattle.layout.proofs.Slots.{inSlot}
+use Rattle.layout.proofs.SlotMembers.{inSlot}
 
 -- each number below n stands once among 0 .. n - 1
 count-one : (c n : ℕ) → c < n → count (λ k. eqb c k) n ≡ 1

@@ -16,7 +16,7 @@ use Rattle.layout.specs.declared.Half.{Half}
 use Rattle.lists.specs.Lists.{over}
 use Rattle.store.specs.TripWalk.{visit, walk, slotsOf}
 use Rattle.store.proofs.TripWalk.{visit-few, walk-few, walk-ends, walk-none}
-use Rattle.store.specs.Places.{mostSlots, Level, Wrote, visitsAt}
+use Rattle.store.specs.TripSlots.{mostSlots, Level, Wrote, visitsAt}
 
 -- a run of stores at the front
 pub sets-over : (l v : List ℕ) → length v ≤ length l → sets l 0 v ≡ over v l

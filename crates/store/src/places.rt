@@ -11,7 +11,7 @@ ghost use Rattle.ruler.specs.Ruler.{deepest, inBounds, scale};
 ghost use Rattle.layout.specs.Words.{slotNumber};
 ghost use Rattle.store.specs.TripWalk.{inHalf, visit, slotsOf, slotsOfTrip};
 ghost use Rattle.lists.specs.Lists.{over};
-ghost use Rattle.store.specs.Places.{mostSlots, Level, Wrote, visitsAt};
+ghost use Rattle.store.specs.TripSlots.{mostSlots, Level, Wrote, visitsAt};
 
 // Two slots of each level: more are never visited.
 pub const MOST_SLOTS: usize = 22;

@@ -1,9 +1,9 @@
 -- The laws of the crate, a file for each matter, and document 01's own input as an example.
 pub mod Parting
-pub mod Reading
+pub mod FieldRead
 pub mod Meaning
 pub mod Writing
 pub mod RoundTrip
 pub mod LineSteps
 pub mod Longest
-pub mod Examples
+pub mod LineExamples

@@ -19,7 +19,7 @@ use Rattle.text.specs.Bytes.{space, onFirst, parted}
 use Rattle.text.specs.Number.{mostDigits, numberOf}
 use Rattle.text.specs.Command.{followedBy, numbersAfter, numbersOf, commandOfFields, commandOf, longestLine}
 use Rattle.text.proofs.Parting.{parted-first}
-use Rattle.text.proofs.Reading.{too-many}
+use Rattle.text.proofs.FieldRead.{too-many}
 
 -- a space and a number
 abbrev mostField : ℕ

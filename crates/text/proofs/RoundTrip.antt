@@ -8,7 +8,7 @@ use native.Mathlib.Omega.{arith}
 use Rattle.text.specs.declared.Number.the-variants.{Value}
 use Rattle.text.specs.Number.{base, digitZero, isDigit, allDigits, valueAfter, valueOf, numberOf}
 use Rattle.text.specs.Decimal.{digit, decimal}
-use Rattle.text.proofs.Reading.{is-digit, a-number}
+use Rattle.text.proofs.FieldRead.{is-digit, a-number}
 use Rattle.text.proofs.Writing.{by-digits, some-digit, ten-digits}
 
 digits-then : (l : List ℕ) (b : ℕ) → allDigits l ≡ true → isDigit b ≡ true → allDigits (l ++ (b ∷ [])) ≡ true

@@ -10,7 +10,7 @@ use Rattle.lists.proofs.Tests.{to-and, to-T}
 use Rattle.ruler.specs.declared.Ruler.{Ruler}
 use Rattle.ruler.specs.Ruler.{Scale, inBounds, scale, cellUp}
 use Rattle.ruler.proofs.Fair.{Fair}
-use Rattle.ruler.proofs.Levels.{up-half, up-bottom, up-lt}
+use Rattle.ruler.proofs.CellLevels.{up-half, up-bottom, up-lt}
 use Rattle.trip.specs.declared.Trip.{Trip}
 use Rattle.layout.specs.declared.Half.the-variants.{Originals}
 use Rattle.layout.specs.Stored.{within, holds, holdsTrip, isOriginal, isIn, isOf, subdivisionOf, belongs}
@@ -18,7 +18,7 @@ use Rattle.layout.specs.Words.{partitions, partitionNumber, slotNumber, slot}
 use Rattle.layout.proofs.Partitions.{to-within}
 use Rattle.layout.proofs.RulerCells.{fair-ruler}
 use Rattle.layout.proofs.Numbers.{level-number, place-number, number-lt}
-use Rattle.layout.proofs.Slots.{to-slot}
+use Rattle.layout.proofs.SlotMembers.{to-slot}
 use Rattle.layout.specs.Refusals.{Fits, fits}
 use Rattle.layout.proofs.Chains.{of-onRuler}
 use Rattle.verify.specs.Local.{homeLevel, homeAt, home}

@@ -13,7 +13,7 @@ use Rattle.lists.proofs.Halving.{at-mem, in-order, sorted-of}
 use Rattle.ruler.specs.Ruler.{Scale}
 use Rattle.trip.specs.declared.Trip.{Trip}
 use Rattle.trip.specs.Trips.{sameTrip}
-use Rattle.trip.proofs.Alike.{of-same, same-refl}
+use Rattle.trip.proofs.SameWords.{of-same, same-refl}
 use Rattle.layout.specs.declared.Half.the-variants.{Originals}
 use Rattle.layout.specs.declared.Subdivision.the-variants.{OIn}
 use Rattle.layout.specs.Stored.{subdivisionOf}

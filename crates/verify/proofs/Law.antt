@@ -16,7 +16,7 @@ use Rattle.ruler.specs.Ruler.{Scale, mostTrips, deepest, inBounds, scale}
 use Rattle.ruler.proofs.Fair.{Fair, scale-good}
 use Rattle.trip.specs.declared.Trip.{Trip}
 use Rattle.trip.specs.Trips.{sameTrip}
-use Rattle.trip.proofs.Alike.{of-same, same-refl}
+use Rattle.trip.proofs.SameWords.{of-same, same-refl}
 use Rattle.layout.specs.declared.Half.{Half}
 use Rattle.layout.specs.declared.Half.the-variants.{Originals, Replicas}
 use Rattle.layout.specs.Words.{order, partitions, halfLength, directoryLength, subdivisionAt, Index}
@@ -25,8 +25,8 @@ use Rattle.layout.specs.Calls.{index}
 use Rattle.layout.proofs.RulerCells.{fair-ruler, deep-ruler}
 use Rattle.layout.proofs.RowOrder.{slot-order}
 use Rattle.layout.proofs.Indexes.{of-isIndex, to-isIndex}
-use Rattle.layout.proofs.Slots.{inSlot}
-use Rattle.layout.proofs.Local.{slotsOf, Standing, Proper, Laid, originalsHalf, replicasHalf, all-fit, originals-are, local-index, index-local}
+use Rattle.layout.proofs.SlotMembers.{inSlot}
+use Rattle.layout.proofs.LocalConditions.{slotsOf, Standing, Proper, Laid, originalsHalf, replicasHalf, all-fit, originals-are, local-index, index-local}
 use Rattle.layout.proofs.Chains.{of-onRuler, to-onRuler}
 use Rattle.store.specs.Ids.{idsDiffer}
 use Rattle.store.proofs.Differing.{of-idsDiffer, to-idsDiffer}
@@ -36,7 +36,7 @@ use Rattle.verify.specs.Passing.{each, some}
 use Rattle.verify.specs.Local.{halfOk, slotAt, tripsOf, standsAt, slotOk, slotsOk, home, isKnown, countsTo, halvesOk, allSlotsOk, tripsOk, locally}
 use Rattle.verify.proofs.Passing.{bool-ext, of-below, to-below, of-each, to-each, of-some, to-some, row-passes, row-sorted, to-row}
 use Rattle.verify.proofs.Home.{home-lt, home-slot}
-use Rattle.verify.proofs.Cut.{of-half, to-half, count-cut, cut-laid, trips-cut, laid-length, laid-cut, laid-at}
+use Rattle.verify.proofs.SlotsCut.{of-half, to-half, count-cut, cut-laid, trips-cut, laid-length, laid-cut, laid-at}
 
 -- ---- one half
 

@@ -23,7 +23,7 @@ use Rattle.layout.proofs.Subdivisions.{of-half-and-side}
 use Rattle.layout.proofs.Rows.{words-length}
 use Rattle.layout.proofs.Indexes.{Indexed}
 use Rattle.layout.proofs.MostEntries.{entries-most}
-use Rattle.layout.proofs.Reading.{slot-numbered, slot-inside, slots-apart, before-more, before-le, LaidFrom, next-word, originals-laid, replicas-laid}
+use Rattle.layout.proofs.ByDirectory.{slot-numbered, slot-inside, slots-apart, before-more, before-le, LaidFrom, next-word, originals-laid, replicas-laid}
 use Rattle.store.specs.Parts.{arenaOf, partWords, PartThere}
 use Rattle.store.proofs.Parts.{laid-slot-there, laid-slot}
 use Rattle.view.specs.Directory.{halfFrom, slotAt, everySecond, countOf, rowOf, rowsOf, Halves}

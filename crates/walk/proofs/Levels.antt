@@ -16,7 +16,7 @@ use Rattle.layout.specs.Words.{partitionNumber, halfLength, Index}
 use Rattle.layout.specs.Refusals.{tableOf, isIndex}
 use Rattle.layout.proofs.RowOrder.{Distinct}
 use Rattle.layout.proofs.Indexes.{Indexed, of-isIndex}
-use Rattle.layout.proofs.Reading.{LaidFrom, originals-laid, replicas-laid}
+use Rattle.layout.proofs.ByDirectory.{LaidFrom, originals-laid, replicas-laid}
 use Rattle.plan.specs.declared.range.Plan.{Plan}
 use Rattle.plan.specs.Plan.{Ranged, originalSlots, replicaSlots, firstSlot, slotAt, sureFirst, sureLast, keepUnless, stretch, arranged, stretchesAt}
 use Rattle.plan.proofs.Looked.{slotsFrom, width, lookedAt, levelWalk, walk}
@@ -25,9 +25,9 @@ use Rattle.plan.proofs.Sure.{three-pieces, first-sure, between-sure, last-sure,
 use Rattle.store.specs.Parts.{PartThere}
 use Rattle.walk.specs.Part.{stretchMatches}
 use Rattle.walk.specs.Levels.{levelMatches, LevelsThere, walkMatches}
-use Rattle.walk.proofs.Slots.{SlotsThere, AllThere, fourMatches}
-use Rattle.walk.proofs.Looks.{none-kept, level-looks, level-there}
-use Rattle.walk.proofs.Laid.{stretch-is, stretch-there, partition-there}
+use Rattle.walk.proofs.LevelSlots.{SlotsThere, AllThere, fourMatches}
+use Rattle.walk.proofs.LooksMeet.{none-kept, level-looks, level-there}
+use Rattle.walk.proofs.StretchWords.{stretch-is, stretch-there, partition-there}
 
 -- what the walk asks: an index, a plan on its ruler, and that a quick plan is right to be so
 pub record Ready (s : Scale) (t : Trip → Bool) (p : Plan) (x : Index) : Type 0 where

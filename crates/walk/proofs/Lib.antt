@@ -1,9 +1,9 @@
 -- The laws of a walk: what is listed and cut, the stretches of an index, the looks of a level and of all levels.
 pub mod Written
-pub mod Turns
-pub mod Slots
+pub mod PartTurns
+pub mod LevelSlots
 pub mod Searched
-pub mod Rows
-pub mod Looks
-pub mod Laid
+pub mod MatchesJoined
+pub mod LooksMeet
+pub mod StretchWords
 pub mod Levels

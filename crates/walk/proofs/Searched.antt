@@ -24,7 +24,7 @@ use Rattle.plan.specs.declared.looks.Order.{Order}
 use Rattle.plan.specs.declared.looks.Order.the-variants.{ByStart, ByEnd, Other}
 use Rattle.plan.specs.Bounds.{has, inside}
 use Rattle.walk.specs.Cut.{timeOf, spanOf, earlierThan, timely, cutOf, Rises, Parted}
-use Rattle.walk.proofs.Slots.{InTurn}
+use Rattle.walk.proofs.LevelSlots.{InTurn}
 
 -- ---- a slot in its order never falls in time
 

@@ -7,7 +7,7 @@ use lib.ListN.{length, take, drop, getD, set, length-append, length-drop, length
 use lib.Seq.{take-all, drop-cons, drop-drop, take-at, drop-at, set-at}
 use Rattle.trip.specs.declared.Trip.{Trip}
 use Rattle.lists.specs.Lists.{over}
-use Rattle.layout.proofs.Edits.{idOf}
+use Rattle.layout.proofs.SortedLists.{idOf}
 use Rattle.store.specs.Entries.{ids}
 use Rattle.walk.specs.Part.{Listed}
 

@@ -7,7 +7,7 @@ use Rattle.trip.specs.declared.Question.{Question}
 use Rattle.layout.specs.Refusals.{tableOf}
 use Rattle.layout.specs.Calls.{index}
 use Rattle.ask.specs.declared.judge.Judgement.the-variants.{Fit}
-use Rattle.ask.proofs.Judging.{Judged, judged-fit, judged-unfit}
+use Rattle.ask.proofs.QuestionJudged.{Judged, judged-fit, judged-unfit}
 use Rattle.ask.proofs.Endings.{ends-unfit, past-chain}
 use borrow.Author.Needs.{needs}
 use Rattle.ask.proofs.answer_to.Statement.{statement}

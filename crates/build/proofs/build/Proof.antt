@@ -2,7 +2,7 @@
 use mathlib.Core.Path.{sym, ap, _∙_}
 use Rattle.ruler.specs.declared.Numbers.{Numbers}
 use Rattle.ruler.specs.Ruler.{scaleOf}
-use Rattle.ruler.proofs.Judging.{judged-good, judged-out}
+use Rattle.ruler.proofs.RulerMade.{judged-good, judged-out}
 use Rattle.ruler.proofs.Fair.{scale-good}
 use Rattle.layout.specs.declared.Outcome.{Outcome}
 use Rattle.layout.specs.Calls.{index, after, buildOf}

@@ -11,7 +11,7 @@ use Rattle.layout.specs.Refusals.{isAccepted}
 use Rattle.layout.proofs.RulerCells.{deep-ruler}
 use Rattle.layout.proofs.Tables.{Table}
 use Rattle.store.proofs.Halves.{two-halves, first-long, next-long, both-back}
-use Rattle.build.specs.Judged.{lengths}
+use Rattle.build.specs.RowsJudged.{lengths}
 use Rattle.build.proofs.Outcomes.{left-old, left-new, accepted-table, first-half, second-half}
 use native.Mathlib.Omega.{arith}
 use borrow.Author.Needs.{needs}

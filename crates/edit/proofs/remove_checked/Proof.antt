@@ -9,7 +9,7 @@ use Rattle.layout.specs.Calls.{index, without}
 use Rattle.layout.proofs.RulerCells.{deep-ruler}
 use Rattle.layout.proofs.Checked.{checked}
 use Rattle.edit.specs.Search.{placeOfId}
-use Rattle.edit.proofs.Reading.{Shown, shown}
+use Rattle.edit.proofs.IndexRead.{Shown, shown}
 use Rattle.edit.proofs.Chained.{remove-accepted}
 use Rattle.edit.proofs.Removed.{found, not-found}
 use native.Mathlib.Omega.{arith}

@@ -6,7 +6,7 @@ use Rattle.ruler.specs.Ruler.{scale}
 use Rattle.layout.specs.Words.{halfLength}
 use Rattle.layout.specs.Calls.{index}
 use Rattle.layout.proofs.RulerCells.{deep-ruler}
-use Rattle.edit.proofs.Lent.{removing, two-parts, first-lent, second-lent, both-back}
+use Rattle.edit.proofs.HalfLent.{removing, two-parts, first-lent, second-lent, both-back}
 use native.Mathlib.Omega.{arith}
 use borrow.Author.Needs.{needs}
 use Rattle.edit.proofs.take_out.Statement.{statement}

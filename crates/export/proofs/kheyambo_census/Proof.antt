@@ -3,7 +3,7 @@ use mathlib.Core.Path.{ap, _∙_}
 use Rattle.layout.specs.Calls.{index}
 use Rattle.verify.specs.Opening.{outcomeOf}
 use Rattle.verify.proofs.Opening.{told}
-use Rattle.view.proofs.Entries.{readable, rows-opened}
+use Rattle.view.proofs.ViewEntries.{readable, rows-opened}
 use Rattle.export.specs.Said.{saidOf, checkSaid, censusSaid}
 use Rattle.export.proofs.Thin.{counted-so}
 use borrow.Author.Needs.{needs}

@@ -4,7 +4,7 @@ use mathlib.Core.Path.{sym}
 use Prim.Native.Nat.{_-_}
 use native.Mathlib.Omega.{arith}
 use lib.ListN.{length}
-use Rattle.text.proofs.Reading.{
+use Rattle.text.proofs.FieldRead.{
   below-digits,
   above-digits,
   no-digits,

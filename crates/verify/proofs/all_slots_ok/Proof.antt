@@ -1,6 +1,6 @@
 -- The three tests of `allSlotsOk`, each by its function.
 use Rattle.verify.specs.Local.{allSlotsOk}
-use Rattle.verify.proofs.Parts.{of-halves, some-words}
+use Rattle.verify.proofs.TestsPassed.{of-halves, some-words}
 use Rattle.verify.proofs.all_slots_ok.Statement.{statement}
 use Rattle.verify.proofs.all_slots_ok.Tie as tie
 

@@ -2,7 +2,7 @@
 use mathlib.Core.Path.{sym, _∙_}
 use borrow.Author.Tests.{not-true, not-false}
 use Rattle.verify.specs.Local.{locally}
-use Rattle.verify.proofs.Parts.{some-words}
+use Rattle.verify.proofs.TestsPassed.{some-words}
 use Rattle.verify.proofs.locally.Statement.{statement}
 use Rattle.verify.proofs.locally.Tie as tie
 

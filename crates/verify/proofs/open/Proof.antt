@@ -4,7 +4,7 @@ use mathlib.Core.Bool.{true, false}
 use borrow.Author.Tests.{not-true, not-false}
 use Rattle.ruler.specs.declared.Numbers.{Numbers}
 use Rattle.ruler.specs.Ruler.{scaleOf}
-use Rattle.ruler.proofs.Judging.{judged-good, judged-out}
+use Rattle.ruler.proofs.RulerMade.{judged-good, judged-out}
 use Rattle.ruler.proofs.Fair.{scale-good}
 use Rattle.layout.specs.Words.{directoryLength}
 use Rattle.layout.specs.Refusals.{refuse}

@@ -1,6 +1,6 @@
 -- The three tests of `tripsOk`, each by its function, on the words of the entries.
 use Rattle.verify.specs.Local.{tripsOk}
-use Rattle.verify.proofs.Parts.{of-halves, of-slots, some-words, half-room, totals-fit, all-rows, few-rows}
+use Rattle.verify.proofs.TestsPassed.{of-halves, of-slots, some-words, half-room, totals-fit, all-rows, few-rows}
 use native.Mathlib.Omega.{arith}
 use Rattle.verify.proofs.trips_ok.Statement.{statement}
 use Rattle.verify.proofs.trips_ok.Tie as tie

@@ -1,7 +1,7 @@
 -- The index is opened once, and its rows read.
 use mathlib.Core.Path.{_∙_}
 use Rattle.layout.specs.Calls.{index}
-use Rattle.view.proofs.Entries.{readable, rows-opened}
+use Rattle.view.proofs.ViewEntries.{readable, rows-opened}
 use borrow.Author.Needs.{needs}
 use Rattle.view.proofs.census.Statement.{statement}
 use Rattle.view.proofs.census.Tie as tie

@@ -5,7 +5,7 @@ use Rattle.ruler.specs.Ruler.{scaleOf}
 use Rattle.layout.specs.Answers.{halfOf}
 use Rattle.layout.specs.Calls.{index}
 use Rattle.view.specs.declared.Place.{Place}
-use Rattle.view.proofs.Entries.{part-inside, part-is, run-ends}
+use Rattle.view.proofs.ViewEntries.{part-inside, part-is, run-ends}
 use native.Mathlib.Omega.{arith}
 use borrow.Author.Needs.{needs}
 use Rattle.view.proofs.run.Statement.{statement}

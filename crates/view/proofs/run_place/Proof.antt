@@ -2,7 +2,7 @@
 use mathlib.Core.Path.{sym, _∙_}
 use Rattle.layout.specs.Calls.{index}
 use Rattle.verify.proofs.Opening.{opened}
-use Rattle.view.proofs.Entries.{place-shut, place-nowhere, slot-named, slot-there, place-there}
+use Rattle.view.proofs.ViewEntries.{place-shut, place-nowhere, slot-named, slot-there, place-there}
 use borrow.Author.Needs.{needs}
 use Rattle.view.proofs.run_place.Statement.{statement}
 use Rattle.view.proofs.run_place.Tie as tie

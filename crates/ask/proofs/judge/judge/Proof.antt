@@ -1,7 +1,7 @@
 -- By what the code names, and by what 4 and 5 say.
 use mathlib.Core.Path.{sym, _∙_}
 use Rattle.layout.specs.Refusals.{windowTests}
-use Rattle.ask.specs.Judged.{judgedAs, judgedOf}
+use Rattle.ask.specs.QuestionJudged.{judgedAs, judgedOf}
 use borrow.Author.Needs.{needs}
 use Rattle.ask.proofs.judge.judge.Statement.{statement}
 use Rattle.ask.proofs.judge.judge.Tie as tie

@@ -9,8 +9,8 @@ use Rattle.layout.specs.Refusals.{mostPartitions, partitionsHolding, Fits}
 use Rattle.layout.proofs.Few.{never-eleven}
 use Rattle.layout.proofs.Rows.{length-rows}
 use Rattle.layout.proofs.RulerCells.{deep-ruler}
-use Rattle.build.proofs.Turns.{tested-fits}
-use Rattle.build.proofs.Judging.{sum-turn, sum-end}
+use Rattle.build.proofs.RowTurns.{tested-fits}
+use Rattle.build.proofs.RowsJudged.{sum-turn, sum-end}
 use native.Mathlib.Omega.{arith}
 use Rattle.build.proofs.rows.all_entries.Statement.{statement}
 use Rattle.build.proofs.rows.all_entries.Tie as tie

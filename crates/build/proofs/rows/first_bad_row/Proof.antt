@@ -10,8 +10,8 @@ use Rattle.layout.specs.declared.Outcome.the-variants.{Accepted}
 use Rattle.layout.specs.Words.{entryWords, rows}
 use Rattle.layout.specs.Refusals.{firstBadRow}
 use Rattle.layout.proofs.Links.{andThen, then-refused, then-accepted}
-use Rattle.build.specs.Judged.{rowsBack}
-use Rattle.build.proofs.Judging.{rows-turn, rows-end}
+use Rattle.build.specs.RowsJudged.{rowsBack}
+use Rattle.build.proofs.RowsJudged.{rows-turn, rows-end}
 use native.Mathlib.Omega.{arith}
 use Rattle.build.proofs.rows.first_bad_row.Statement.{statement}
 use Rattle.build.proofs.rows.first_bad_row.Tie as tie

@@ -5,8 +5,8 @@ use Prim.Native.Nat.{ℕ, _-_, _≤_}
 use borrow.Author.Tests.{eq-eqb, ne-eqb}
 use Rattle.trip.specs.declared.Trip.{Trip}
 use Rattle.layout.specs.Refusals.{hasId}
-use Rattle.build.specs.Judged.{rowsBack}
-use Rattle.build.proofs.Judging.{before-turn}
+use Rattle.build.specs.RowsJudged.{rowsBack}
+use Rattle.build.proofs.RowsJudged.{before-turn}
 use native.Mathlib.Omega.{arith}
 use Rattle.build.proofs.rows.id_before.Statement.{statement}
 use Rattle.build.proofs.rows.id_before.Tie as tie

@@ -1,6 +1,6 @@
 -- Where no id stands twice, none is taken.
 use mathlib.Core.Path.{sym, _∙_}
-use Rattle.build.proofs.Judging.{before-none}
+use Rattle.build.proofs.RowsJudged.{before-none}
 use borrow.Author.Needs.{needs}
 use Rattle.build.proofs.rows.id_taken.Statement.{statement}
 use Rattle.build.proofs.rows.id_taken.Tie as tie

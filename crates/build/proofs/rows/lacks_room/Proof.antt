@@ -3,7 +3,7 @@ use mathlib.Core.Path.{refl}
 use Rattle.ruler.specs.Ruler.{scale}
 use Rattle.layout.specs.Refusals.{mostPartitions, partitionsHolding}
 use Rattle.lists.proofs.Bounded.{sum-most}
-use Rattle.build.proofs.Judging.{rows-within, room-tested}
+use Rattle.build.proofs.RowsJudged.{rows-within, room-tested}
 use native.Mathlib.Omega.{arith}
 use borrow.Author.Needs.{needs}
 use Rattle.build.proofs.rows.lacks_room.Statement.{statement}

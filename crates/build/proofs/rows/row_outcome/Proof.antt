@@ -7,7 +7,7 @@ use Rattle.trip.specs.declared.Trip.{Trip}
 use Rattle.layout.specs.declared.Outcome.the-variants.{Accepted}
 use Rattle.layout.specs.Refusals.{refuse, mostPartitions, partitionsHolding, inTooMany, rowTests}
 use Rattle.layout.proofs.OneRow.{row-untimely, row-fits, row-decided}
-use Rattle.build.specs.Judged.{rowsBack}
+use Rattle.build.specs.RowsJudged.{rowsBack}
 use native.Mathlib.Omega.{arith}
 use borrow.Author.Needs.{needs}
 use Rattle.build.proofs.rows.row_outcome.Statement.{statement}

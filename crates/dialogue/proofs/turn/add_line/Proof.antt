@@ -3,7 +3,7 @@ use Rattle.dialogue.specs.Session.{turnOf}
 use Rattle.layout.specs.Calls.{index}
 use borrow.Author.Tests.{not-true, not-false}
 use borrow.Author.Needs.{needs}
-use Rattle.dialogue.proofs.Turns.{done-then, done-else}
+use Rattle.dialogue.proofs.SessionTurns.{done-then, done-else}
 use Rattle.dialogue.proofs.turn.add_line.Statement.{statement}
 use Rattle.dialogue.proofs.turn.add_line.Tie as tie
 

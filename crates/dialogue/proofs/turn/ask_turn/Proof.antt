@@ -1,5 +1,5 @@
 -- The front of the directory is asked, and the ids or the refusal are written.
-use Rattle.dialogue.proofs.Turns.{in-front, answered-done, count-within}
+use Rattle.dialogue.proofs.SessionTurns.{in-front, answered-done, count-within}
 use Rattle.layout.specs.Calls.{Asked, askOf}
 use Rattle.layout.specs.Words.{Index}
 use Rattle.ruler.specs.Ruler.{scaleOf}

@@ -1,5 +1,5 @@
 -- Malformed after a D line or for too deep a level, and else the index of an empty table.
-use Rattle.dialogue.proofs.Turns.{not-deeper}
+use Rattle.dialogue.proofs.SessionTurns.{not-deeper}
 use Rattle.dialogue.specs.Session.{turnOf}
 use Rattle.layout.specs.Calls.{index}
 use borrow.Author.Needs.{needs}

@@ -1,6 +1,6 @@
 -- The front of the directory is built and put back, and the outcome is written.
 use mathlib.Core.Path.{refl}
-use Rattle.dialogue.proofs.Turns.{in-front, opened-done}
+use Rattle.dialogue.proofs.SessionTurns.{in-front, opened-done}
 use borrow.Author.Needs.{needs}
 use Rattle.dialogue.proofs.turn.open_turn.Statement.{statement}
 use Rattle.dialogue.proofs.turn.open_turn.Tie as tie

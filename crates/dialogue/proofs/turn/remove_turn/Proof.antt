@@ -1,5 +1,5 @@
 -- The front of the directory is edited and put back, and the outcome is written.
-use Rattle.dialogue.proofs.Turns.{in-front, edited-done}
+use Rattle.dialogue.proofs.SessionTurns.{in-front, edited-done}
 use Rattle.layout.specs.Calls.{After, removeOf}
 use Rattle.layout.specs.Words.{Index}
 use Rattle.ruler.specs.Ruler.{scaleOf}

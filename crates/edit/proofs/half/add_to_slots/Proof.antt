@@ -6,7 +6,7 @@ use Rattle.ruler.specs.Ruler.{Scale}
 use Rattle.layout.specs.Words.{Index}
 use Rattle.store.specs.TripWalk.{slotsOfTrip}
 use Rattle.store.specs.Slots.{Holds}
-use Rattle.edit.specs.Halves.{Adding}
+use Rattle.edit.specs.HalfEdited.{Adding}
 use Rattle.edit.proofs.Grown.{grownSlots, grown-start, grown-room, grown-turn, grown-end}
 use native.Mathlib.Omega.{arith}
 use borrow.Author.Needs.{needs}

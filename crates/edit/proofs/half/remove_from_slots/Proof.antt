@@ -6,7 +6,7 @@ use Rattle.ruler.specs.Ruler.{Scale}
 use Rattle.layout.specs.Words.{Index}
 use Rattle.store.specs.TripWalk.{slotsOfTrip}
 use Rattle.store.specs.Slots.{Holds}
-use Rattle.edit.specs.Halves.{Removing}
+use Rattle.edit.specs.HalfEdited.{Removing}
 use Rattle.edit.proofs.Shrunk.{shrunkSlots, shrunk-start, shrunk-there, shrunk-turn, shrunk-end}
 use native.Mathlib.Omega.{arith}
 use borrow.Author.Needs.{needs}

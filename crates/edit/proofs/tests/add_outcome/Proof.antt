@@ -16,9 +16,9 @@ use Rattle.layout.specs.Calls.{index}
 use Rattle.layout.proofs.RulerCells.{deep-ruler}
 use Rattle.layout.proofs.Checked.{checked}
 use Rattle.layout.proofs.Tables.{RowOk}
-use Rattle.edit.proofs.Reading.{Shown, shown}
+use Rattle.edit.proofs.IndexRead.{Shown, shown}
 use Rattle.edit.proofs.Chained.{add-full, add-row, add-room, row-taken}
-use Rattle.edit.proofs.Lent.{cells-in}
+use Rattle.edit.proofs.HalfLent.{cells-in}
 use native.Mathlib.Omega.{arith}
 use borrow.Author.Needs.{needs}
 use Rattle.edit.proofs.tests.add_outcome.Statement.{statement}

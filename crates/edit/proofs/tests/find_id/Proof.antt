@@ -6,7 +6,7 @@ use borrow.Author.Tests.{eq-eqb, ne-eqb}
 use Rattle.layout.specs.Words.{entryWords, rows}
 use Rattle.layout.proofs.Rows.{length-rows}
 use Rattle.edit.specs.Search.{placeOfId}
-use Rattle.edit.proofs.Reading.{row-id, search-hit, search-miss, search-end}
+use Rattle.edit.proofs.IndexRead.{row-id, search-hit, search-miss, search-end}
 use native.Mathlib.Omega.{arith}
 use Rattle.edit.proofs.tests.find_id.Statement.{statement}
 use Rattle.edit.proofs.tests.find_id.Tie as tie

@@ -10,8 +10,8 @@ use Rattle.layout.specs.Refusals.{refuse, hasId, mostPartitions, partitionsHold
 use Rattle.layout.proofs.Rows.{length-rows}
 use Rattle.layout.proofs.OneRow.{row-untimely, row-fits, row-decided}
 use Rattle.edit.specs.Search.{placeOfId}
-use Rattle.edit.proofs.Reading.{has-place}
-use Rattle.edit.proofs.Lent.{cells-in}
+use Rattle.edit.proofs.IndexRead.{has-place}
+use Rattle.edit.proofs.HalfLent.{cells-in}
 use borrow.Author.Needs.{needs}
 use Rattle.edit.proofs.tests.trip_outcome.Statement.{statement}
 use Rattle.edit.proofs.tests.trip_outcome.Tie as tie

@@ -1,5 +1,5 @@
 -- The partition's number at the level, doubled.
-use Rattle.ruler.proofs.Levels.{up-lt}
+use Rattle.ruler.proofs.CellLevels.{up-lt}
 use Rattle.layout.specs.Words.{partitionNumber}
 use Rattle.plan.specs.Plan.{firstSlot}
 use native.Mathlib.Omega.{arith}

@@ -1,7 +1,7 @@
 -- At level m the cell of a time is its level-m cell.
 use mathlib.Core.Path.{ap, _∙_}
 use Rattle.ruler.specs.Ruler.{scaleOf, scale, cellOf}
-use Rattle.ruler.proofs.Levels.{up-bottom}
+use Rattle.ruler.proofs.CellLevels.{up-bottom}
 use native.Mathlib.Omega.{arith}
 use Rattle.ruler.proofs.Ruler.bottom_cell.Statement.{statement}
 use Rattle.ruler.proofs.Ruler.bottom_cell.Tie as tie

@@ -1,7 +1,7 @@
 -- One visit after the other.
 use lib.Dec.{eqb}
 use Rattle.store.proofs.TripWalk.{visit-few}
-use Rattle.store.specs.Places.{visitsAt}
+use Rattle.store.specs.TripSlots.{visitsAt}
 use Rattle.store.proofs.Walking.{wrote-long, wrote-both}
 use native.Mathlib.Omega.{arith}
 use borrow.Author.Needs.{needs}

@@ -13,7 +13,7 @@ use Rattle.layout.proofs.RulerCells.{deep-ruler}
 use Rattle.verify.specs.Passing.{each}
 use Rattle.verify.specs.Local.{countsTo}
 use Rattle.verify.proofs.Home.{trip-fits}
-use Rattle.verify.proofs.Passes.{each-more, each-stop, each-end, sum-more, sum-end}
+use Rattle.verify.proofs.LoopTurns.{each-more, each-stop, each-end, sum-more, sum-end}
 use native.Mathlib.Omega.{arith}
 use Rattle.verify.proofs.counting.counts_to.Statement.{statement}
 use Rattle.verify.proofs.counting.counts_to.Tie as tie

@@ -3,7 +3,7 @@ use mathlib.Core.Path.{_≡_, refl, sym, _∙_}
 use Prim.Native.Nat.{_-_}
 use lib.ListN.{length, drop}
 use Rattle.verify.specs.Passing.{blank}
-use Rattle.verify.proofs.Passes.{blank-more, blank-stop, blank-end}
+use Rattle.verify.proofs.LoopTurns.{blank-more, blank-stop, blank-end}
 use native.Mathlib.Omega.{arith}
 use Rattle.verify.proofs.half.blank_from.Statement.{statement}
 use Rattle.verify.proofs.half.blank_from.Tie as tie

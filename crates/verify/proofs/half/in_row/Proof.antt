@@ -8,7 +8,7 @@ use Rattle.ruler.specs.Ruler.{scale}
 use Rattle.layout.specs.Words.{tripAt, rows, order}
 use Rattle.verify.specs.Passing.{after, inRow}
 use Rattle.verify.specs.Local.{standsAt}
-use Rattle.verify.proofs.Passes.{row-empty, row-first, row-fails, row-more, row-stop, row-end}
+use Rattle.verify.proofs.LoopTurns.{row-empty, row-first, row-fails, row-more, row-stop, row-end}
 use native.Mathlib.Omega.{arith}
 use Rattle.verify.proofs.half.in_row.Statement.{statement}
 use Rattle.verify.proofs.half.in_row.Tie as tie

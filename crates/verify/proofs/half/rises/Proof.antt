@@ -3,7 +3,7 @@ use mathlib.Core.Path.{_≡_, refl, sym, _∙_}
 use Prim.Native.Nat.{_-_}
 use lib.ListN.{length, getD, drop}
 use Rattle.verify.specs.Passing.{rising}
-use Rattle.verify.proofs.Passes.{rising-more, rising-stop, rising-end}
+use Rattle.verify.proofs.LoopTurns.{rising-more, rising-stop, rising-end}
 use native.Mathlib.Omega.{arith}
 use Rattle.verify.proofs.half.rises.Statement.{statement}
 use Rattle.verify.proofs.half.rises.Tie as tie

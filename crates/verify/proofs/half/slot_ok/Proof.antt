@@ -3,7 +3,7 @@ use mathlib.Core.Path.{refl}
 use Rattle.ruler.specs.Ruler.{scale}
 use Rattle.layout.proofs.RulerCells.{deep-ruler}
 use Rattle.verify.specs.Local.{slotOk}
-use Rattle.verify.proofs.Places.{few-partitions, placed}
+use Rattle.verify.proofs.PartitionBounds.{few-partitions, placed}
 use native.Mathlib.Omega.{arith}
 use borrow.Author.Needs.{needs}
 use Rattle.verify.proofs.half.slot_ok.Statement.{statement}

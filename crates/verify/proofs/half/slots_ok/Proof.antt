@@ -8,8 +8,8 @@ use Rattle.ruler.specs.Ruler.{scale}
 use Rattle.layout.specs.Words.{partitions, halfLength}
 use Rattle.verify.specs.Passing.{below}
 use Rattle.verify.specs.Local.{slotAt, slotOk, slotsOk}
-use Rattle.verify.proofs.Passes.{below-start, below-more, below-stop}
-use Rattle.verify.proofs.Cut.{slot-in}
+use Rattle.verify.proofs.LoopTurns.{below-start, below-more, below-stop}
+use Rattle.verify.proofs.SlotsCut.{slot-in}
 use native.Mathlib.Omega.{arith}
 use Rattle.verify.proofs.half.slots_ok.Statement.{statement}
 use Rattle.verify.proofs.half.slots_ok.Tie as tie

@@ -8,7 +8,7 @@ use Rattle.ruler.specs.Ruler.{scale}
 use Rattle.layout.specs.Words.{tripAt, rows}
 use Rattle.verify.specs.Passing.{each}
 use Rattle.verify.specs.Local.{isKnown}
-use Rattle.verify.proofs.Passes.{each-more, each-stop, each-end}
+use Rattle.verify.proofs.LoopTurns.{each-more, each-stop, each-end}
 use native.Mathlib.Omega.{arith}
 use Rattle.verify.proofs.origin.all_known.Statement.{statement}
 use Rattle.verify.proofs.origin.all_known.Tie as tie

@@ -2,7 +2,7 @@
 use mathlib.Core.Path.{_≡_, sym, ap, _∙_}
 use Prim.Native.Nat.{_-_, _≤_}
 use borrow.Author.Tests.{not-true, not-false}
-use Rattle.ruler.proofs.Levels.{up-lt}
+use Rattle.ruler.proofs.CellLevels.{up-lt}
 use Rattle.verify.specs.Local.{homeLevel}
 use Rattle.verify.proofs.Home.{home-stop, home-turn, home-end}
 use native.Mathlib.Omega.{arith}

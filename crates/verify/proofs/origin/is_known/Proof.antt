@@ -6,7 +6,7 @@ use Rattle.ruler.specs.Ruler.{scale}
 use Rattle.layout.specs.Words.{partitions, halfLength}
 use Rattle.verify.specs.Local.{isKnown}
 use Rattle.verify.proofs.Home.{home-in}
-use Rattle.verify.proofs.Cut.{slot-in}
+use Rattle.verify.proofs.SlotsCut.{slot-in}
 use Rattle.verify.proofs.Known.{slot-in-order}
 use borrow.Author.Needs.{needs}
 use Rattle.verify.proofs.origin.is_known.Statement.{statement}

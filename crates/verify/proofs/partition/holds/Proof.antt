@@ -1,6 +1,6 @@
 -- A partition of level 0 has no parent; the parent of another is on the level above.
 use mathlib.Core.Path.{sym, _∙_}
-use Rattle.verify.proofs.Places.{holds-top, holds-below, parent-lt}
+use Rattle.verify.proofs.PartitionBounds.{holds-top, holds-below, parent-lt}
 use native.Mathlib.Omega.{arith}
 use borrow.Author.Needs.{needs}
 use Rattle.verify.proofs.partition.holds.Statement.{statement}

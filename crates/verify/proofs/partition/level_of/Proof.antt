@@ -3,7 +3,7 @@ use mathlib.Core.Path.{_≡_, refl, sym, _∙_}
 use Prim.Native.Nat.{_≤_}
 use lib.Pow.{pow-pos}
 use Rattle.layout.specs.Words.{levelOf}
-use Rattle.verify.proofs.Places.{level-stop, level-turn, level-end}
+use Rattle.verify.proofs.PartitionBounds.{level-stop, level-turn, level-end}
 use native.Mathlib.Omega.{arith}
 use Rattle.verify.proofs.partition.level_of.Statement.{statement}
 use Rattle.verify.proofs.partition.level_of.Tie as tie

@@ -3,7 +3,7 @@ use mathlib.Core.Path.{_≡_, refl}
 use Prim.Native.Nat.{_+_, _-_, _*_, _≤_}
 use native.Mathlib.Numerals.{add-one}
 use Rattle.view.specs.Directory.{everySecond}
-use Rattle.view.proofs.Places.{sum-below}
+use Rattle.view.proofs.SlotWords.{sum-below}
 use native.Mathlib.Omega.{arith}
 use Rattle.view.proofs.counts.every_second.Statement.{statement}
 use Rattle.view.proofs.counts.every_second.Tie as tie

@@ -3,7 +3,7 @@ use lib.Pow.{pow-pos}
 use borrow.Author.Tests.{le-leb}
 use Rattle.layout.specs.Stored.{partitionsAt}
 use Rattle.view.specs.Directory.{countOf}
-use Rattle.view.proofs.Places.{level-rising}
+use Rattle.view.proofs.SlotWords.{level-rising}
 use borrow.Author.Needs.{needs}
 use Rattle.view.proofs.counts.level_count.Statement.{statement}
 use Rattle.view.proofs.counts.level_count.Tie as tie

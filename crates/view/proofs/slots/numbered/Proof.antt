@@ -1,6 +1,6 @@
 -- Each number has its line.
 use mathlib.Core.Path.{_≡_, sym}
-use Rattle.view.proofs.Places.{numbered-last}
+use Rattle.view.proofs.SlotWords.{numbered-last}
 use Rattle.layout.specs.Answers.{subdivisionNumbered}
 use native.Mathlib.Omega.{arith}
 use borrow.Author.Needs.{needs}

@@ -1,7 +1,7 @@
 -- The words before the half, then those before the slot.
 use mathlib.Core.Path.{refl}
 use Rattle.layout.proofs.Numbers.{halves-length, half-small}
-use Rattle.view.proofs.Places.{slot-fits, slot-sum}
+use Rattle.view.proofs.SlotWords.{slot-fits, slot-sum}
 use native.Mathlib.Omega.{arith}
 use borrow.Author.Needs.{needs}
 use Rattle.view.proofs.slots.slot_at.Statement.{statement}

@@ -5,8 +5,8 @@ use lib.ListN.{length, length-append}
 use Rattle.lists.specs.Lists.{joined}
 use Rattle.plan.specs.Bounds.{inside}
 use Rattle.walk.specs.Levels.{levelLook, looksTo}
-use Rattle.walk.proofs.Rows.{row-more}
-use Rattle.walk.proofs.Looks.{look-seen, none-before, none-after, from-to, originals-in, replicas-in, next-there, look-room}
+use Rattle.walk.proofs.MatchesJoined.{row-more}
+use Rattle.walk.proofs.LooksMeet.{look-seen, none-before, none-after, from-to, originals-in, replicas-in, next-there, look-room}
 use native.Mathlib.Omega.{arith}
 use borrow.Author.Needs.{needs}
 use Rattle.walk.proofs.count.count_level.Statement.{statement}

@@ -6,7 +6,7 @@ use Rattle.lists.specs.Lists.{joined}
 use Rattle.plan.specs.Bounds.{inside}
 use Rattle.plan.specs.Plan.{stretchesAt}
 use Rattle.walk.specs.Levels.{levelUp}
-use Rattle.walk.proofs.Rows.{row-none, row-more, row-room}
+use Rattle.walk.proofs.MatchesJoined.{row-none, row-more, row-room}
 use native.Mathlib.Omega.{arith}
 use borrow.Author.Needs.{needs}
 use Rattle.walk.proofs.count.count_levels.Statement.{statement}

@@ -7,7 +7,7 @@ use lib.ListN.{length}
 use Rattle.lists.proofs.Kept.{kept-few}
 use Rattle.layout.specs.Words.{tripAt}
 use Rattle.plan.specs.Bounds.{inside}
-use Rattle.walk.proofs.Turns.{found, found-none, found-all, count-hit, count-miss}
+use Rattle.walk.proofs.PartTurns.{found, found-none, found-all, count-hit, count-miss}
 use native.Mathlib.Omega.{arith}
 use borrow.Author.Needs.{needs}
 use Rattle.walk.proofs.count.count_tested.Statement.{statement}

@@ -7,8 +7,8 @@ use Rattle.plan.specs.Bounds.{inside}
 use Rattle.walk.specs.Part.{Listed}
 use Rattle.walk.specs.Levels.{levelLook, looksTo}
 use Rattle.walk.proofs.Written.{lent-room, lent-back, listed-none, listed-length, listed-more}
-use Rattle.walk.proofs.Rows.{row-more}
-use Rattle.walk.proofs.Looks.{look-seen, none-before, none-after, from-to, originals-in, replicas-in, next-there, look-room, look-fits}
+use Rattle.walk.proofs.MatchesJoined.{row-more}
+use Rattle.walk.proofs.LooksMeet.{look-seen, none-before, none-after, from-to, originals-in, replicas-in, next-there, look-room, look-fits}
 use native.Mathlib.Omega.{arith}
 use borrow.Author.Needs.{needs}
 use Rattle.walk.proofs.list.list_level.Statement.{statement}

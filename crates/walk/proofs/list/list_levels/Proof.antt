@@ -8,7 +8,7 @@ use Rattle.plan.specs.Plan.{stretchesAt}
 use Rattle.walk.specs.Part.{Listed}
 use Rattle.walk.specs.Levels.{levelUp}
 use Rattle.walk.proofs.Written.{lent-room, lent-back, listed-none, listed-length, rest-room, listed-more}
-use Rattle.walk.proofs.Rows.{row-none, row-more, row-room, row-fits}
+use Rattle.walk.proofs.MatchesJoined.{row-none, row-more, row-room, row-fits}
 use native.Mathlib.Omega.{arith}
 use borrow.Author.Needs.{needs}
 use Rattle.walk.proofs.list.list_levels.Statement.{statement}

@@ -9,7 +9,7 @@ use Rattle.layout.specs.Words.{tripAt}
 use Rattle.plan.specs.Bounds.{inside}
 use Rattle.walk.specs.Part.{Listed}
 use Rattle.walk.proofs.Written.{listed-none}
-use Rattle.walk.proofs.Turns.{found, found-none, found-all, hit-room, hit-listed, miss-listed}
+use Rattle.walk.proofs.PartTurns.{found, found-none, found-all, hit-room, hit-listed, miss-listed}
 use lib.ListN.{length}
 use native.Mathlib.Omega.{arith}
 use borrow.Author.Needs.{needs}

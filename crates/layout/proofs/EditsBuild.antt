@@ -25,7 +25,7 @@ use Rattle.layout.proofs.Links.{leaves-made}
 use Rattle.layout.proofs.RowOrder.{Distinct, layout-same, entries-same}
 use Rattle.layout.proofs.Rows.{rows-words, words-le}
 use Rattle.layout.proofs.Chains.{Room, refuse-no, refuse-pass, refuse-taken, to-outOfBounds, to-badDirectory, of-noRoom, to-noRoom}
-use Rattle.layout.proofs.Edits.{entries-without}
+use Rattle.layout.proofs.SortedLists.{entries-without}
 use Rattle.layout.proofs.Tables.{RowOk, of-rowTests, to-rowTests, RowsOk, rows-more, Table, to-build}
 use Rattle.layout.proofs.Indexes.{layout-lengths, Indexed, of-isIndex, to-isIndex, table-again, indexed, back-in, in-back, back-length}
 

@@ -22,12 +22,12 @@ use Rattle.layout.specs.Stored.{subdivisionOf}
 use Rattle.layout.specs.Words.{entryWords, rows, tripAt, order, partitions, partitionNumber, slot}
 use Rattle.layout.proofs.RowOrder.{Distinct, slot-sorted}
 use Rattle.layout.proofs.Rows.{length-rows, getD-rows, rows-words}
-use Rattle.layout.proofs.Reading.{LaidFrom, slot-from}
+use Rattle.layout.proofs.ByDirectory.{LaidFrom, slot-from}
 use Rattle.store.specs.Parts.{partWords, PartThere}
 use Rattle.store.proofs.Parts.{laid-there, laid-words}
 use Rattle.plan.specs.Plan.{firstSlot, stretch}
 use Rattle.plan.proofs.Looked.{slotFrom, slotsFrom}
-use Rattle.walk.proofs.Slots.{InTurn, afterIn, SlotsThere}
+use Rattle.walk.proofs.LevelSlots.{InTurn, afterIn, SlotsThere}
 
 -- ---- the entries between two words
 

@@ -18,7 +18,7 @@ use Rattle.trip.specs.declared.Trip.{Trip}
 use Rattle.layout.specs.Words.{entryWords, words, rows}
 use Rattle.layout.proofs.Rows.{rows-words, words-rows, words-append, words-length, words-le}
 use Rattle.layout.proofs.RowParts.{words-joined}
-use Rattle.layout.proofs.Local.{Laid, laid-room}
+use Rattle.layout.proofs.LocalConditions.{Laid, laid-room}
 use Rattle.store.specs.Halves.{total}
 use Rattle.store.specs.Parts.{partWords, PartThere}
 use Rattle.store.proofs.Halves.{total-at}

@@ -23,8 +23,8 @@ use Rattle.plan.specs.Looks.{frontEnd, frontOf, backOf, looks, originalLooks, l
 use Rattle.store.specs.Parts.{partWords, PartThere}
 use Rattle.walk.specs.Part.{Listed, stretchMatches}
 use Rattle.walk.specs.Levels.{lookWords, partOf, LookThere, lookMatches, levelLook, levelMatches, LevelThere, looksFrom, looksTo}
-use Rattle.walk.proofs.Slots.{InTurn, inSlot, aftSlot, afterIn, SlotsThere, AllThere, fourMatches}
-use Rattle.walk.proofs.Rows.{row-room, row-fits}
+use Rattle.walk.proofs.LevelSlots.{InTurn, inSlot, aftSlot, afterIn, SlotsThere, AllThere, fourMatches}
+use Rattle.walk.proofs.MatchesJoined.{row-room, row-fits}
 use Rattle.walk.proofs.Searched.{starts-rise, ends-rise, cut-matches}
 
 -- ---- a look

@@ -12,7 +12,7 @@ use Rattle.layout.specs.declared.Subdivision.{Subdivision}
 use Rattle.layout.specs.declared.Subdivision.the-variants.{RAft}
 use Rattle.layout.specs.Words.{halfLength, directoryLength, slotNumber}
 use Rattle.layout.specs.Answers.{halfOf, isAft, subdivisionNumbered}
-use Rattle.layout.proofs.Reading.{slot-inside, slots-apart}
+use Rattle.layout.proofs.ByDirectory.{slot-inside, slots-apart}
 use Rattle.view.specs.Directory.{halfFrom, slotAt, everySecond, Rising, Halves}
 
 pub half-fits : (m : ℕ) (h : Half) → halfFrom m h + halfLength m ≤ directoryLength m

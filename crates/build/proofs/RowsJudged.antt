@@ -22,15 +22,15 @@ use Rattle.layout.specs.Refusals.{hasId, noRoom, partitionsHolding, rowTests, f
 use Rattle.layout.proofs.RowOrder.{OtherId, Distinct, length-same}
 use Rattle.layout.proofs.Rows.{length-rows, getD-rows}
 use Rattle.layout.proofs.Chains.{to-hasId}
-use Rattle.layout.proofs.Slots.{of-originals, to-originals, originals-distinct}
+use Rattle.layout.proofs.SlotMembers.{of-originals, to-originals, originals-distinct}
 use Rattle.layout.proofs.RulerCells.{fair-ruler}
 use Rattle.layout.proofs.Links.{andThen, row-then}
 use Rattle.layout.proofs.Counted.{all-entries}
 use Rattle.store.specs.Ordered.{noTrip}
 use Rattle.store.specs.Ids.{idsDiffer}
 use Rattle.store.proofs.Differing.{of-idsDiffer}
-use Rattle.build.specs.Laid.{Tested}
-use Rattle.build.specs.Judged.{rowsBack, lengths}
+use Rattle.build.specs.HalfBuilt.{Tested}
+use Rattle.build.specs.RowsJudged.{rowsBack, lengths}
 
 -- ---- the ids of the rows before a row
 

@@ -23,7 +23,7 @@ use Rattle.layout.specs.declared.Half.the-variants.{Originals, Replicas}
 use Rattle.layout.specs.Words.{entryWords, words, order, partitions, halfLength, directoryLength, subdivisionAt, slot, entriesBefore, entries, directoryHalf, arena, Index, lengthsOf, layout}
 use Rattle.layout.specs.Refusals.{partitionsHolding, tableOf, Fits}
 use Rattle.layout.proofs.RowOrder.{Distinct, slot-order, slot-sorted}
-use Rattle.layout.proofs.Slots.{of-slot, to-slot, slot-once, inSlot}
+use Rattle.layout.proofs.SlotMembers.{of-slot, to-slot, slot-once, inSlot}
 use Rattle.layout.proofs.Few.{never-eleven}
 use Rattle.layout.proofs.Rows.{words-length}
 use Rattle.layout.proofs.Tables.{Table}

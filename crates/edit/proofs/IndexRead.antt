@@ -21,13 +21,13 @@ use Rattle.layout.specs.Refusals.{hasId, tableOf, mostPartitions}
 use Rattle.layout.specs.Calls.{index}
 use Rattle.layout.proofs.Rows.{words-length, rows-words, getD-rows}
 use Rattle.layout.proofs.Indexes.{Indexed, directoryHalf-length, table-of-layout}
-use Rattle.layout.proofs.Reading.{directory-are, originals-are, replicas-are, directory-long, originals-laid, replicas-laid}
+use Rattle.layout.proofs.ByDirectory.{directory-are, originals-are, replicas-are, directory-long, originals-laid, replicas-laid}
 use Rattle.layout.proofs.MostEntries.{entries-most}
 use Rattle.store.specs.Halves.{total}
 use Rattle.store.specs.Ordered.{noTrip}
 use Rattle.store.proofs.Halves.{total-at, two-halves, first-lent, second-next, both-back}
 use Rattle.edit.specs.Search.{placeOfId}
-use Rattle.edit.specs.Halves.{HalfOf}
+use Rattle.edit.specs.HalfEdited.{HalfOf}
 
 -- ---- the trip of an id
 

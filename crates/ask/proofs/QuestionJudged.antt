@@ -21,7 +21,7 @@ use Rattle.layout.specs.Refusals.{refuse, noSuchCode, OnRuler, windowTests, que
 use Rattle.layout.proofs.Chains.{refuse-pass, refuse-taken, times-on, window-pass, window-refused}
 use Rattle.ask.specs.declared.judge.Judgement.{Judgement}
 use Rattle.ask.specs.declared.judge.Judgement.the-variants.{Fit, Unfit}
-use Rattle.ask.specs.Judged.{judgedAs, judgedOf}
+use Rattle.ask.specs.QuestionJudged.{judgedAs, judgedOf}
 
 -- the question p is q judged
 pub record Judged (s : Scale) (q : Asking) (p : Question) : Type 0 where

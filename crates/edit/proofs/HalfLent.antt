@@ -18,11 +18,11 @@ use Rattle.layout.specs.Words.{halfLength, Index, lengthsOf, layout}
 use Rattle.layout.specs.Refusals.{tableOf, addOutcome, removeOutcome, Fits}
 use Rattle.layout.specs.Calls.{index}
 use Rattle.layout.proofs.Indexes.{Indexed}
-use Rattle.layout.proofs.Reading.{directory-long}
-use Rattle.layout.proofs.Edited.{of-add, of-remove}
+use Rattle.layout.proofs.ByDirectory.{directory-long}
+use Rattle.layout.proofs.EditsBuild.{of-add, of-remove}
 use Rattle.store.proofs.Halves.{two-halves}
-use Rattle.edit.specs.Halves.{HalfOf, Adding, Removing}
-use Rattle.edit.proofs.Reading.{firstHalf, firstBack, secondHalf, first-of, second-of, both-of}
+use Rattle.edit.specs.HalfEdited.{HalfOf, Adding, Removing}
+use Rattle.edit.proofs.IndexRead.{firstHalf, firstBack, secondHalf, first-of, second-of, both-of}
 
 -- the times of a trip that the ruler takes have cells of the scale
 pub cells-in : (r : Ruler) → inBounds (r .numbers) ≡ true → (t : Trip) → Fits (scale r) t

@@ -16,8 +16,8 @@ use Rattle.layout.specs.Stored.{belongs}
 use Rattle.layout.specs.Words.{order, levelOf, placeOf, slotTrips, subdivisionAt, slot}
 use Rattle.layout.specs.Calls.{without}
 use Rattle.layout.proofs.RowOrder.{OtherId, Distinct}
-use Rattle.layout.proofs.Slots.{of-slot, to-slot, same-id, inSlot}
-use Rattle.layout.proofs.Edits.{slotTrips-add, slotTrips-without}
+use Rattle.layout.proofs.SlotMembers.{of-slot, to-slot, same-id, inSlot}
+use Rattle.layout.proofs.SortedLists.{slotTrips-add, slotTrips-without}
 
 -- the order of slot k of a half
 abbrev pub slotOrder : Half → (k : ℕ) → Trip → Trip → Bool
