@@ -9,6 +9,13 @@ use borrow.Author.Needs.{needs}
 use Rattle.ask.proofs.ask.Statement.{statement}
 use Rattle.ask.proofs.ask.Tie as tie
 
+-- the places that facts are taken from
+abbrev start-before-open : tie.After-open → tie.Start
+start-before-open c = c .before .before .before .before .before
+
+abbrev open-before-answer-to : tie.After-answer-to → tie.After-open
+open-before-answer-to c = c .before .before .before .before .before
+
 open-requires : tie.Need-open-requires
 open-requires c κs = search needs
 
@@ -17,7 +24,7 @@ enum-known-opened c = search needs
 
 answer-to-requires : tie.Need-answer-to-requires
 answer-to-requires c κs =
-    let a = c .before .before .before .before .before .before .before .before .before .args in
+    let a = start-before-open (c .before .before .before .before) .args in
     let x = index (a .directory .now) (a .originals .now) (a .replicas .now) in
     let is = c .before .before .opened .given in
     let w = opened (a .numbers) x (is .0 .0) (c .before .before .before .before .«open» .ensures) (is .1) in
@@ -34,16 +41,16 @@ same-length c = search needs
 
 returns : tie.Need-returns
 returns c =
-    let a = c .before .before .before .before .before .before .before .before .before .before .before .before .args in
+    let a = start-before-open (open-before-answer-to (c .before .before)) .args in
     let x = index (a .directory .now) (a .originals .now) (a .replicas .now) in
     let is = c .before .before .before .before .before .opened .given in
-    let w = opened (a .numbers) x (is .0 .0) (c .before .before .before .before .before .before .before .«open» .ensures) (is .1) in
+    let w = opened (a .numbers) x (is .0 .0) (open-before-answer-to (c .before .before) .«open» .ensures) (is .1) in
     c .before .before .answer-to .ensures ∙ past-check (scale (is .0 .0)) x (a .asking) _ (w .passes)
     ∙ ap (λ (n : Numbers). askOf (scaleOf n) x (a .asking) (a .answers .now)) (w .numbers)
 
 returns-2 : tie.Need-returns-2
 returns-2 c =
-    let a = c .before .before .before .before .before .before .before .before .before .args in
+    let a = start-before-open (c .before .before .before .before) .args in
     let x = index (a .directory .now) (a .originals .now) (a .replicas .now) in
     let told = shut (a .numbers) x _ (c .before .before .before .before .«open» .ensures) (c .before .before .opened2 .given .1) in
     ends-unchecked (scaleOf (a .numbers)) x (a .asking) _ told (c .refused .ensures .0) (c .refused .ensures .1)

@@ -21,6 +21,25 @@ use borrow.Author.Needs.{needs}
 use Rattle.ask.proofs.listed.Statement.{statement}
 use Rattle.ask.proofs.listed.Tie as tie
 
+-- the places that facts are taken from
+abbrev start-before-bounds-of : tie.After-bounds-of → tie.Start
+start-before-bounds-of c = c .before .before .before .before .before .before
+
+abbrev start-before-trips-of : tie.After-trips-of → tie.Start
+start-before-trips-of c = start-before-bounds-of (c .before .before .before)
+
+abbrev plan-for-before-room-for : tie.After-room-for → tie.After-plan-for
+plan-for-before-room-for c = c .before .before .before
+
+abbrev enum-told-before-sort-ids : tie.After-sort-ids → tie.After-enum-told
+enum-told-before-sort-ids c = c .before .before .before .before .before .before
+
+abbrev plan-for-before-return-2 : tie.After-slice-known3 → tie.After-plan-for
+plan-for-before-return-2 c = plan-for-before-room-for (enum-told-before-sort-ids (c .before .before) .before .before)
+
+abbrev start-before-return-2 : tie.After-slice-known3 → tie.Start
+start-before-return-2 c = start-before-bounds-of (plan-for-before-return-2 c .before)
+
 bounds-of-requires : tie.Need-bounds-of-requires
 bounds-of-requires c κs =
     let s = c .before .before .before .before .before in
@@ -36,7 +55,7 @@ bottom-requires c κs = search needs
 
 trips-of-requires : tie.Need-trips-of-requires
 trips-of-requires c κs =
-    let s = c .before .before .before .before .before .before .before .before in
+    let s = start-before-bounds-of (c .before .before) in
     let g = s .args in
     let x = index (g .directory .now) (g .originals .now) (g .replicas .now) in
     let deep = deep-ruler (g .ruler) (s .pre .0) in
@@ -44,7 +63,7 @@ trips-of-requires c κs =
 
 room-for-requires : tie.Need-room-for-requires
 room-for-requires c κs =
-    let s = c .before .before .before .before .before .before .before .before .before in
+    let s = start-before-trips-of c in
     let g = s .args in
     let x = index (g .directory .now) (g .originals .now) (g .replicas .now) in
     let same = same-listing (g .ruler) (s .pre .0) x (s .pre .1 .0) (g .question) (s .pre .1 .1) (c .before .before .before .bounds-of .ensures)
@@ -66,12 +85,12 @@ refused-requires c κs = search needs
 returns : tie.Need-returns
 unfolding listedOf
 returns c =
-    let s = c .before .before .before .before .before .before .before .before .before .before .before .before .before .before in
+    let s = start-before-trips-of (c .before .before .before .before .before) in
     let g = s .args in
     let x = index (g .directory .now) (g .originals .now) (g .replicas .now) in
     let same = same-listing (g .ruler) (s .pre .0) x (s .pre .1 .0) (g .question) (s .pre .1 .1)
-    (c .before .before .before .before .before .before .before .before .bounds-of .ensures)
-    (c .before .before .before .before .before .before .before .plan-for .ensures) in
+    (plan-for-before-room-for (c .before .before .before .before) .before .bounds-of .ensures)
+    (plan-for-before-room-for (c .before .before .before .before) .plan-for .ensures) in
     let told = c .before .before .room .given .1 in
     let long = ap length same ∙ listing-length (g .ruler) (s .pre .0) x (s .pre .1 .0) (g .question) (s .pre .1 .1) in
     let room = ap (λ (n : ℕ). roomTest n (length (g .answers .now))) (sym long) ∙ sym (c .before .before .before .before .room-for .ensures) ∙ told in
@@ -82,11 +101,11 @@ enum-told c = search needs
 
 list-levels-requires : tie.Need-list-levels-requires
 list-levels-requires c κs =
-    let s = c .before .before .before .before .before .before .before .before .before .before .before .before .before in
+    let s = start-before-trips-of (c .before .before .before .before) in
     let g = s .args in
     let x = index (g .directory .now) (g .originals .now) (g .replicas .now) in
     let same = same-listing (g .ruler) (s .pre .0) x (s .pre .1 .0) (g .question) (s .pre .1 .1)
-    (c .before .before .before .before .before .before .before .bounds-of .ensures)
+    (plan-for-before-room-for (c .before .before .before) .before .bounds-of .ensures)
     (c .before .before .before .before .before .before .plan-for .ensures) in
     let told = c .before .enum-told .given .1 in
     let room = c .before .before .before .room-for .ensures in (
@@ -115,13 +134,11 @@ sort-ids-requires c κs = search needs
 
 cast-t16 : tie.Need-cast-t16
 cast-t16 c =
-    let s = c .before .before .before .before .before .before .before .before .before .before .before .before .before .before .before .before .before .before .before .before
-    in
+    let s = start-before-return-2 c in
     let g = s .args in
     let x = index (g .directory .now) (g .originals .now) (g .replicas .now) in
     let same = same-listing (g .ruler) (s .pre .0) x (s .pre .1 .0) (g .question) (s .pre .1 .1)
-    (c .before .before .before .before .before .before .before .before .before .before .before .before .before .before .bounds-of .ensures)
-    (c .before .before .before .before .before .before .before .before .before .before .before .before .before .plan-for .ensures) in
+    (plan-for-before-return-2 c .before .bounds-of .ensures) (plan-for-before-return-2 c .plan-for .ensures) in
     let few = listing-few (g .ruler) (s .pre .0) x (s .pre .1 .0) (g .question) (s .pre .1 .1) in
     let most = trips-few (g .ruler) (s .pre .0) x (s .pre .1 .0) (g .question) (s .pre .1 .1) in
     omega (arith, ap length same, c .before .before .before .before .before .before .list-levels .ensures .counted)
@@ -131,15 +148,13 @@ same-length c = search needs
 
 returns-2 : tie.Need-returns-2
 returns-2 c =
-    let s = c .before .before .before .before .before .before .before .before .before .before .before .before .before .before .before .before .before .before .before .before
-    in
+    let s = start-before-return-2 c in
     let g = s .args in
     let x = index (g .directory .now) (g .originals .now) (g .replicas .now) in
     let same = same-listing (g .ruler) (s .pre .0) x (s .pre .1 .0) (g .question) (s .pre .1 .1)
-    (c .before .before .before .before .before .before .before .before .before .before .before .before .before .before .bounds-of .ensures)
-    (c .before .before .before .before .before .before .before .before .before .before .before .before .before .plan-for .ensures) in
-    let told = c .before .before .before .before .before .before .before .before .enum-told .given .1 in
-    let room = c .before .before .before .before .before .before .before .before .before .before .room-for .ensures in
+    (plan-for-before-return-2 c .before .bounds-of .ensures) (plan-for-before-return-2 c .plan-for .ensures) in
+    let told = enum-told-before-sort-ids (c .before .before) .enum-told .given .1 in
+    let room = enum-told-before-sort-ids (c .before .before) .before .before .room-for .ensures in
     let long = ap length same ∙ listing-length (g .ruler) (s .pre .0) x (s .pre .1 .0) (g .question) (s .pre .1 .1) in
     let l = c .before .before .before .before .before .before .list-levels .ensures in
     let over = sorted-over _ {k = c .before .before .before .before .before .before .list-levels .result - 0} l (omega arith)

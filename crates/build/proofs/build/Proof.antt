@@ -11,6 +11,13 @@ use borrow.Author.Needs.{needs}
 use Rattle.build.proofs.build.Statement.{statement}
 use Rattle.build.proofs.build.Tie as tie
 
+-- the places that facts are taken from
+abbrev start-before-new : tie.After-new → tie.Start
+start-before-new c = c .before .before .before .before .before
+
+abbrev build-on-arg-before-build-on : tie.After-build-on → tie.After-build-on-arg
+build-on-arg-before-build-on c = c .before .before .before
+
 new-requires : tie.Need-new-requires
 new-requires c κs = search needs
 
@@ -25,7 +32,7 @@ refused-requires c κs = search needs
 
 returns : tie.Need-returns
 returns c =
-    let a = c .before .before .before .before .before .before .before .before .args in
+    let a = start-before-new (c .before .before .before) .args in
     let words = index (a .directory .now) (a .originals .now) (a .replicas .now) in
     ap (λ (o : Outcome). after o words) (c .refused .ensures)
     ∙ says-1 (scaleOf (a .numbers)) (a .table .now) (a .directory .now) (a .originals .now) (a .replicas .now)
@@ -48,8 +55,8 @@ same-length-3 c = search needs
 
 returns-2 : tie.Need-returns-2
 returns-2 c =
-    let far = c .before .before .before .before .before .before .before .before .before in
-    let a = far .before .before .before .before .before .before .before .before .before .args in
+    let far = build-on-arg-before-build-on (c .before .before .before .before .before .before) in
+    let a = start-before-new (far .before .before .before .before) .args in
     let words = index (a .directory .now) (a .originals .now) (a .replicas .now) in
     let ruler = far .before .before .ruler .given in
     let made = judged-good _ (ruler .0 .0) (sym (far .before .before .before .before .new .ensures) ∙ ruler .1) in

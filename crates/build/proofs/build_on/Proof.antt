@@ -18,6 +18,19 @@ use borrow.Author.Needs.{needs}
 use Rattle.build.proofs.build_on.Statement.{statement}
 use Rattle.build.proofs.build_on.Tie as tie
 
+-- the places that facts are taken from
+abbrev start-before-is-accepted : tie.After-is-accepted → tie.Start
+start-before-is-accepted c = c .before .before .before .before .before .before
+
+abbrev start-before-half-length : tie.After-half-length → tie.Start
+start-before-half-length c = start-before-is-accepted (c .before .before .before)
+
+abbrev half-length-before-originals : tie.After-originals → tie.After-half-length
+half-length-before-originals c = c .before .before .before .before .before .before
+
+abbrev fill-before-fill-call-2 : tie.After-fill-arg4 → tie.After-fill
+fill-before-fill-call-2 c = c .before .before .before .before .before .before
+
 judged-requires : tie.Need-judged-requires
 judged-requires c κs = search needs
 
@@ -26,7 +39,7 @@ is-accepted-requires c κs = search needs
 
 returns : tie.Need-returns
 returns c =
-    let a = c .before .before .before .before .before .before .before .args in
+    let a = start-before-is-accepted (c .before) .args in
     left-old (scale (a .ruler)) (a .table .now) (a .directory .now) (a .originals .now) (a .replicas .now) (c .before .before .judged .result)
     (c .before .before .judged .ensures) (sym (c .before .is-accepted .ensures) ∙ not-true _ (c .if1 .taken))
 
@@ -34,28 +47,27 @@ bottom-requires : tie.Need-bottom-requires
 bottom-requires c κs = search needs
 
 half-length-requires : tie.Need-half-length-requires
-half-length-requires c κs = let g = c .before .before .before .before .before .before .before .before in rw (c .bottom .ensures)
+half-length-requires c κs = let g = start-before-is-accepted (c .before .before) in rw (c .bottom .ensures)
     (deep-ruler (g .args .ruler) (g .pre))
 
 -- past the tests: the outcome is taken, so the rows are a table
 fine : (c : tie.Else1) → isAccepted (c .before .before .judged .result) ≡ true
 fine c = sym (c .before .is-accepted .ensures) ∙ not-false _ (c .if1 .left)
 
-a-table : (c : tie.Else1) → let a = c .before .before .before .before .before .before .before .args in
+a-table : (c : tie.Else1) → let a = start-before-is-accepted (c .before) .args in
     Table (scale (a .ruler)) (rows (a .table .now)) (lengths (length (a .directory .now)) (length (a .originals .now)) (length (a .replicas .now)))
 a-table c =
-    let a = c .before .before .before .before .before .before .before .args in
+    let a = start-before-is-accepted (c .before) .args in
     accepted-table (scale (a .ruler)) (a .table .now) (a .directory .now) (a .originals .now) (a .replicas .now) (c .before .before .judged .result)
     (c .before .before .judged .ensures) (fine c)
 
 -- where the code cuts the directory
 half : (c : tie.After-half-length) → c .half-length .result ≡ halfLength
-    (scale (c .before .before .before .before .before .before .before .before .before .args .ruler) .m)
+    (scale (start-before-half-length c .args .ruler) .m)
 half c = c .half-length .ensures ∙ ap halfLength (c .before .bottom .ensures)
 
 both : (c : tie.After-half-length) → length
-    (c .before .before .before .before .before .before .before .before .before .args .directory .now)
-    ≡ c .half-length .result + c .half-length .result
+    (start-before-half-length c .args .directory .now) ≡ c .half-length .result + c .half-length .result
 both c = two-halves _ (a-table (c .before .before) .directory) (half c)
 
 sub-fill : tie.Need-sub-fill
@@ -70,31 +82,31 @@ part-fill-end c = omega (arith, both c)
 fill-requires : tie.Need-fill-requires
 fill-requires c κs =
     let cut = c .before .before in
-    let g = cut .before .before .before .before .before .before .before .before .before in
+    let g = start-before-half-length cut in
     let a = g .args in
     first-half (a .ruler) (a .table .now) (a .directory .now) (a .originals .now) (a .replicas .now) (g .pre) (a-table (cut .before .before)) _
     (first-long (a .directory .now) (cut .half-length .result) (length (a .directory .now)) (both cut) refl ∙ half cut)
 
 mul-fill : tie.Need-mul-fill
-mul-fill c = omega (arith, both (c .before .before .before .before .before .before .before))
+mul-fill c = omega (arith, both (half-length-before-originals (c .before)))
 
 sub-fill-2 : tie.Need-sub-fill-2
-sub-fill-2 c = omega (arith, both (c .before .before .before .before .before .before .before))
+sub-fill-2 c = omega (arith, both (half-length-before-originals (c .before)))
 
 part-fill-start-2 : tie.Need-part-fill-start-2
-part-fill-start-2 c = omega (arith, both (c .before .before .before .before .before .before .before))
+part-fill-start-2 c = omega (arith, both (half-length-before-originals (c .before)))
 
 part-fill-end-2 : tie.Need-part-fill-end-2
 part-fill-end-2 c = search needs
 
 fill-requires-2 : tie.Need-fill-requires-2
 fill-requires-2 c κs =
-    let cut = c .before .before .before .before .before .before .before .before .before in
-    let g = cut .before .before .before .before .before .before .before .before .before in
+    let cut = half-length-before-originals (c .before .before .before) in
+    let g = start-before-half-length cut in
     let a = g .args in
     let d = a .directory .now in
     let h = cut .half-length .result in
-    let one = c .before .before .before .before .before .before .fill in
+    let one = fill-before-fill-call-2 c .fill in
     let long = one .kept .0 ∙ first-long d h (length d) (both cut) refl in
     second-half (a .ruler) (a .table .now) d (a .originals .now) (a .replicas .now) (g .pre) (a-table (cut .before .before)) _
     (next-long d h (length d) (both cut) refl (one .last .0) long ∙ half cut)
@@ -110,13 +122,13 @@ same-length-3 c = search needs
 
 returns-2 : tie.Need-returns-2
 returns-2 c =
-    let cut = c .before .before .before .before .before .before .before .before .before .before .before .before .before .before in
+    let cut = fill-before-fill-call-2 (c .before .before .before .before .before) .before .before .before in
     let taken = cut .before .before in
-    let g = cut .before .before .before .before .before .before .before .before .before in
+    let g = start-before-half-length cut in
     let a = g .args in
     let d = a .directory .now in
     let h = cut .half-length .result in
-    let one = c .before .before .before .before .before .before .before .before .before .before .before .fill in
+    let one = fill-before-fill-call-2 (c .before .before .before .before .before) .fill in
     let two = c .before .before .before .before .fill2 in
     let long = one .kept .0 ∙ first-long d h (length d) (both cut) refl in
     let halves = both-back d h (length d) (both cut) refl (one .last .0) long (two .last .0)

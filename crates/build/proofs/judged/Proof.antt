@@ -10,6 +10,13 @@ use borrow.Author.Needs.{needs}
 use Rattle.build.proofs.judged.Statement.{statement}
 use Rattle.build.proofs.judged.Tie as tie
 
+-- the places that facts are taken from
+abbrev start-before-rows-outcome : tie.After-rows-outcome → tie.Start
+start-before-rows-outcome c = c .before .before .before .before .before .before
+
+abbrev directory-length-before-lacks-room : tie.After-lacks-room → tie.After-directory-length
+directory-length-before-lacks-room c = c .before .before .before .before .before
+
 refused-requires : tie.Need-refused-requires
 refused-requires c κs = search needs
 
@@ -53,7 +60,7 @@ is-accepted-requires c κs = search needs
 returns-3 : tie.Need-returns-3
 unfolding badSize
 returns-3 c =
-    let g = c .before .before .before .before .before .before .before .before in
+    let g = start-before-rows-outcome (c .before .before) in
     let a = g .args in
     let long = c .before .before .before .if2 .left ∙ c .before .before .before .before .directory-length .ensures
     ∙ ap directoryLength (c .before .before .before .before .before .bottom .ensures) in
@@ -64,7 +71,7 @@ returns-3 c =
 lacks-room-requires : tie.Need-lacks-room-requires
 unfolding badSize
 lacks-room-requires c κs =
-    let g = c .before .before .before .before .before .before .before .before in
+    let g = start-before-rows-outcome (c .before .before) in
     let a = g .args in
     let long = c .before .before .before .if2 .left ∙ c .before .before .before .before .directory-length .ensures
     ∙ ap directoryLength (c .before .before .before .before .before .bottom .ensures) in
@@ -78,12 +85,12 @@ refused-requires-3 c κs = search needs
 returns-4 : tie.Need-returns-4
 unfolding badSize
 returns-4 c =
-    let far = c .before .before .before .before .before .before .before .before .before in
+    let far = directory-length-before-lacks-room (c .before .before) .before .before in
     let g = far .before .before in
     let a = g .args in
     let long = c .before .before .before .before .before .before .if2 .left
-    ∙ c .before .before .before .before .before .before .before .directory-length .ensures
-    ∙ ap directoryLength (c .before .before .before .before .before .before .before .before .bottom .ensures) in
+    ∙ directory-length-before-lacks-room (c .before .before) .directory-length .ensures
+    ∙ ap directoryLength (directory-length-before-lacks-room (c .before .before) .before .bottom .ensures) in
     let fine = sym (c .before .before .before .before .is-accepted .ensures) ∙ not-false _ (c .before .before .before .if3 .left) in
     c .refused3 .ensures ∙ says-7 (a .ruler) (a .table .now) (a .directory) (a .originals) (a .replicas) (g .pre) (far .if1 .left) long _
     (c .before .before .before .before .before .rows-outcome .ensures) fine
@@ -92,14 +99,13 @@ returns-4 c =
 returns-5 : tie.Need-returns-5
 unfolding badSize
 returns-5 c =
-    let g = c .before .before .before .before .before .before .before .before .before .before in
+    let g = start-before-rows-outcome (c .before .before .before .before) in
     let a = g .args in
     let long = c .before .before .before .before .before .if2 .left ∙ c .before .before .before .before .before .before .directory-length .ensures
-    ∙ ap directoryLength (c .before .before .before .before .before .before .before .bottom .ensures) in
+    ∙ ap directoryLength (directory-length-before-lacks-room (c .before) .before .bottom .ensures) in
     let fine = sym (c .before .before .before .is-accepted .ensures) ∙ not-false _ (c .before .before .if3 .left) in
     says-0 (a .ruler) (a .table .now) (a .directory) (a .originals) (a .replicas) (g .pre)
-    (c .before .before .before .before .before .before .before .before .if1 .left) long _
-    (c .before .before .before .before .rows-outcome .ensures) fine
+    (directory-length-before-lacks-room (c .before) .before .before .if1 .left) long _ (c .before .before .before .before .rows-outcome .ensures) fine
     (sym (c .before .lacks-room .ensures) ∙ c .if4 .left)
 
 pub judged-spec : {M : Type 1} → statement M

@@ -10,6 +10,16 @@ use borrow.Author.Needs.{needs}
 use Rattle.edit.proofs.add.Statement.{statement}
 use Rattle.edit.proofs.add.Tie as tie
 
+-- the places that facts are taken from
+abbrev start-before-open-call : tie.After-open-arg3 → tie.Start
+start-before-open-call c = c .before .before .before .before .before .before
+
+abbrev open-before-add-checked-call : tie.After-add-checked-arg3 → tie.After-open
+open-before-add-checked-call c = c .before .before .before .before .before .before
+
+abbrev start-before-add-checked-call : tie.After-add-checked-arg3 → tie.Start
+start-before-add-checked-call c = start-before-open-call (open-before-add-checked-call c .before)
+
 open-requires : tie.Need-open-requires
 open-requires c κs = search needs
 
@@ -18,10 +28,10 @@ enum-known-opened c = search needs
 
 add-checked-requires : tie.Need-add-checked-requires
 add-checked-requires c κs =
-    let a = c .before .before .before .before .before .before .before .before .before .before .before .before .before .args in
+    let a = start-before-add-checked-call c .args in
     let x = index (a .directory .now) (a .originals .now) (a .replicas .now) in
     let is = c .before .before .before .before .opened .given in
-    let w = opened (a .numbers) x (is .0 .0) (c .before .before .before .before .before .before .«open» .ensures) (is .1) in
+    let w = opened (a .numbers) x (is .0 .0) (open-before-add-checked-call c .«open» .ensures) (is .1) in
     (w .good, w .passes)
 
 enum-known-opened-2 : tie.Need-enum-known-opened-2
@@ -42,10 +52,10 @@ same-length-3 c = search needs
 returns : tie.Need-returns
 returns c =
     let far = c .before .before .before .before .before .before in
-    let a = far .before .before .before .before .before .before .before .before .before .before .before .before .before .before .args in
+    let a = start-before-add-checked-call (far .before) .args in
     let x = index (a .directory .now) (a .originals .now) (a .replicas .now) in
     let is = far .before .before .before .before .before .opened .given in
-    let w = opened (a .numbers) x (is .0 .0) (far .before .before .before .before .before .before .before .«open» .ensures) (is .1) in
+    let w = opened (a .numbers) x (is .0 .0) (open-before-add-checked-call (far .before) .«open» .ensures) (is .1) in
     far .add-checked .ensures ∙ ap (λ (n : Numbers). addOf (scaleOf n) x (a .t)) (w .numbers)
 
 same-length-4 : tie.Need-same-length-4
@@ -59,7 +69,7 @@ same-length-6 c = search needs
 
 returns-2 : tie.Need-returns-2
 returns-2 c =
-    let a = c .before .before .before .before .before .before .before .before .before .before .before .args in
+    let a = start-before-open-call (c .before .before .before .before .before) .args in
     let x = index (a .directory .now) (a .originals .now) (a .replicas .now) in
     ap (λ (o : Outcome). after o x) (c .refused .ensures)
     ∙ add-shut (a .numbers) x (a .t) _ (c .before .before .before .before .«open» .ensures) (c .before .before .opened2 .given .1)

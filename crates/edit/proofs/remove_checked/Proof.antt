@@ -17,6 +17,22 @@ use borrow.Author.Needs.{needs}
 use Rattle.edit.proofs.remove_checked.Statement.{statement}
 use Rattle.edit.proofs.remove_checked.Tie as tie
 
+-- the places that facts are taken from
+abbrev start-before-trips-of : tie.After-trips-of → tie.Start
+start-before-trips-of c = c .before .before .before .before .before .before
+
+abbrev trips-of-before-trip-at : tie.After-trip-at → tie.After-trips-of
+trips-of-before-trip-at c = c .before .before .before .before .before .before
+
+abbrev trip-at-before-take-out : tie.After-take-out → tie.After-trip-at
+trip-at-before-take-out c = c .before .before .before .before
+
+abbrev trip-at-before-return-2 : tie.After-slice-known6 → tie.After-trip-at
+trip-at-before-return-2 c = trip-at-before-take-out (c .before .before .before .before .before .before)
+
+abbrev trips-of-before-return-2 : tie.After-slice-known6 → tie.After-trips-of
+trips-of-before-return-2 c = trips-of-before-trip-at (trip-at-before-return-2 c)
+
 abbrev words : tie.Start → Index
 words s = index (s .args .directory .now) (s .args .originals .now) (s .args .replicas .now)
 
@@ -35,15 +51,14 @@ trips-of-requires c κs =
 
 -- as many trips as the directory says
 counted : (c : tie.After-trips-of) → c .trips-of .result
-    ≡ length (tableOf (scale (c .before .before .before .before .before .before .args .ruler)) (words
-    (c .before .before .before .before .before .before)))
+    ≡ length (tableOf (scale (start-before-trips-of c .args .ruler)) (words (start-before-trips-of c)))
 counted c =
-    let g = c .before .before .before .before .before .before in
+    let g = start-before-trips-of c in
     c .trips-of .ensures ∙ ap (λ (m : ℕ). getD (g .args .directory .now) (2 * partitions m) 0) (c .before .before .bottom .ensures)
     ∙ in-index g .trips
 
 mul-used : tie.Need-mul-used
-mul-used c = omega (arith, in-index (c .before .before .before .before .before .before), counted c)
+mul-used c = omega (arith, in-index (start-before-trips-of c), counted c)
 
 sub-find-id : tie.Need-sub-find-id
 sub-find-id c = search needs
@@ -52,7 +67,7 @@ part-find-id-start : tie.Need-part-find-id-start
 part-find-id-start c = search needs
 
 part-find-id-end : tie.Need-part-find-id-end
-part-find-id-end c = omega (arith, in-index (c .before .before .before .before .before .before .before), counted (c .before))
+part-find-id-end c = omega (arith, in-index (start-before-trips-of (c .before)), counted (c .before))
 
 find-id-requires : tie.Need-find-id-requires
 find-id-requires c κs = search needs
@@ -68,7 +83,7 @@ same-length-2 c = search needs
 
 returns : tie.Need-returns
 returns c =
-    let g = c .before .before .before .before .before .before .before .before .before .before .before in
+    let g = start-before-trips-of (c .before .before .before .before .before) in
     let s = scale (g .args .ruler) in
     let x = index (g .args .directory .now) (g .args .originals .now) (g .args .replicas .now) in
     let w = in-index g in
@@ -80,7 +95,7 @@ returns c =
 trip-at-requires : tie.Need-trip-at-requires
 trip-at-requires c κs = omega (
   arith,
-  in-index (c .before .before .before .before .before .before .before .before .before .before .before),
+  in-index (start-before-trips-of (c .before .before .before .before .before)),
   counted
       (c .before .before .before .before .before),
   c .before .if1 .left,
@@ -88,17 +103,16 @@ trip-at-requires c κs = omega (
 
 take-out-requires : tie.Need-take-out-requires
 take-out-requires c κs =
-    let g = c .before .before .before .before .before .before .before .before .before .before .before .before .before .before .before in
+    let g = start-before-trips-of (trips-of-before-trip-at (c .before .before .before)) in
     let s = scale (g .args .ruler) in
     let x = index (g .args .directory .now) (g .args .originals .now) (g .args .replicas .now) in
     let w = in-index g in
     let read = ap (λ (k : ℕ). rows (take (entryWords * k - 0) (x .originals)))
-    (counted (c .before .before .before .before .before .before .before .before .before)) ∙ w .listed in
+    (counted (trips-of-before-trip-at (c .before .before .before))) ∙ w .listed in
     let place = c .before .before .before .before .before .before .find-id .ensures ∙ ap (placeOfId (g .args .id)) read in
     let f = found s x (g .args .id) _ (g .pre .1) w place (c .before .before .before .trip-at .result) (omega (
       arith,
-      counted
-          (c .before .before .before .before .before .before .before .before .before),
+      counted (trips-of-before-trip-at (c .before .before .before)),
       c .before .before .before .before .before .if1 .left,
     ))
     (c .before .before .before .trip-at .ensures) in
@@ -115,25 +129,15 @@ same-length-5 c = search needs
 
 returns-2 : tie.Need-returns-2
 returns-2 c =
-    let far = c .before .before .before .before .before .before .before .before .before .before .before .before in
-    let g = far .before .before .before .before .before .before .before .before .before .before in
+    let g = start-before-trips-of (trips-of-before-return-2 c) in
     let s = scale (g .args .ruler) in
     let x = index (g .args .directory .now) (g .args .originals .now) (g .args .replicas .now) in
     let w = in-index g in
-    let read = ap (λ (k : ℕ). rows (take (entryWords * k - 0) (x .originals)))
-    (counted (c .before .before .before .before .before .before .before .before .before .before .before .before .before .before .before .before))
-    ∙ w .listed in
-    let place = c .before .before .before .before .before .before .before .before .before .before .before .before .before .find-id .ensures
-    ∙ ap (placeOfId (g .args .id)) read in
-    let f = found s x (g .args .id) _ (g .pre .1) w place
-    (c .before .before .before .before .before .before .before .before .before .before .trip-at .result)
-    (omega (
-      arith,
-      counted
-          (c .before .before .before .before .before .before .before .before .before .before .before .before .before .before .before .before),
-      c .before .before .before .before .before .before .before .before .before .before .before .before .if1 .left,
-    ))
-    (c .before .before .before .before .before .before .before .before .before .before .trip-at .ensures) in
+    let read = ap (λ (k : ℕ). rows (take (entryWords * k - 0) (x .originals))) (counted (trips-of-before-return-2 c)) ∙ w .listed in
+    let place = trip-at-before-return-2 c .before .before .before .find-id .ensures ∙ ap (placeOfId (g .args .id)) read in
+    let f = found s x (g .args .id) _ (g .pre .1) w place (trip-at-before-return-2 c .trip-at .result)
+    (omega (arith, counted (trips-of-before-return-2 c), trip-at-before-return-2 c .before .before .if1 .left))
+    (trip-at-before-return-2 c .trip-at .ensures) in
     remove-accepted s x _ (g .args .id) (f .accepted) (c .before .before .before .before .before .before .take-out .ensures
     ∙ ap (λ (k : ℕ). layout s (without k (tableOf s x)) (lengthsOf x)) (f .same))
 

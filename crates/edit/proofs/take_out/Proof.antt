@@ -12,6 +12,19 @@ use borrow.Author.Needs.{needs}
 use Rattle.edit.proofs.take_out.Statement.{statement}
 use Rattle.edit.proofs.take_out.Tie as tie
 
+-- the places that facts are taken from
+abbrev start-before-half-length : tie.After-half-length → tie.Start
+start-before-half-length c = c .before .before .before .before .before
+
+abbrev half-length-before-originals : tie.After-originals → tie.After-half-length
+half-length-before-originals c = c .before .before .before .before .before .before
+
+abbrev remove-half-before-remove-half-call-2 : tie.After-remove-half-arg4 → tie.After-remove-half
+remove-half-before-remove-half-call-2 c = c .before .before .before .before .before .before
+
+abbrev half-length-before-remove-half-call-2 : tie.After-remove-half-arg4 → tie.After-half-length
+half-length-before-remove-half-call-2 c = remove-half-before-remove-half-call-2 c .before .before .before
+
 bottom-requires : tie.Need-bottom-requires
 bottom-requires c κs = search needs
 
@@ -19,13 +32,13 @@ half-length-requires : tie.Need-half-length-requires
 half-length-requires c κs = let s = c .before .before .before .before in rw (c .bottom .ensures) (deep-ruler (s .args .ruler) (s .pre .0))
 
 -- where the code cuts
-half : (c : tie.After-half-length) → c .half-length .result ≡ halfLength (scale (c .before .before .before .before .before .args .ruler) .m)
+half : (c : tie.After-half-length) → c .half-length .result ≡ halfLength (scale (start-before-half-length c .args .ruler) .m)
 half c = c .half-length .ensures ∙ ap halfLength (c .before .bottom .ensures)
 
 both : (c : tie.After-half-length) → length
-    (c .before .before .before .before .before .args .directory .now) ≡ c .half-length .result + c .half-length .result
+    (start-before-half-length c .args .directory .now) ≡ c .half-length .result + c .half-length .result
 both c =
-    let s = c .before .before .before .before .before in
+    let s = start-before-half-length c in
     let x = index (s .args .directory .now) (s .args .originals .now) (s .args .replicas .now) in
     two-parts _ _ _ (removing (s .args .ruler) (s .pre .0) x (s .args .t) (s .pre .1 .0) (s .pre .1 .1)) (half c)
 
@@ -40,34 +53,30 @@ part-remove-half-end c = omega (arith, both c)
 
 remove-half-requires : tie.Need-remove-half-requires
 remove-half-requires c κs =
-    let s = c .before .before .before .before .before .before .before in
+    let s = start-before-half-length (c .before .before) in
     let x = index (s .args .directory .now) (s .args .originals .now) (s .args .replicas .now) in
     let e = removing (s .args .ruler) (s .pre .0) x (s .args .t) (s .pre .1 .0) (s .pre .1 .1) in
     (s .pre .0, (x, first-lent _ _ _ e (half (c .before .before))))
 
 mul-remove-half : tie.Need-mul-remove-half
-mul-remove-half c = omega (arith, both (c .before .before .before .before .before .before .before))
+mul-remove-half c = omega (arith, both (half-length-before-originals (c .before)))
 
 sub-remove-half-2 : tie.Need-sub-remove-half-2
-sub-remove-half-2 c = omega (arith, both (c .before .before .before .before .before .before .before))
+sub-remove-half-2 c = omega (arith, both (half-length-before-originals (c .before)))
 
 part-remove-half-start-2 : tie.Need-part-remove-half-start-2
-part-remove-half-start-2 c = omega (arith, both (c .before .before .before .before .before .before .before))
+part-remove-half-start-2 c = omega (arith, both (half-length-before-originals (c .before)))
 
 part-remove-half-end-2 : tie.Need-part-remove-half-end-2
 part-remove-half-end-2 c = search needs
 
 remove-half-requires-2 : tie.Need-remove-half-requires-2
 remove-half-requires-2 c κs =
-    let s = c .before .before .before .before .before .before .before .before .before .before .before .before .before .before in
+    let s = start-before-half-length (half-length-before-remove-half-call-2 c) in
     let x = index (s .args .directory .now) (s .args .originals .now) (s .args .replicas .now) in
     let e = removing (s .args .ruler) (s .pre .0) x (s .args .t) (s .pre .1 .0) (s .pre .1 .1) in (
       s .pre .0,
-      (
-        x,
-        second-lent _ _ _ e (half (c .before .before .before .before .before .before .before .before .before))
-            (c .before .before .before .before .before .before .remove-half .ensures x),
-      ),
+      (x, second-lent _ _ _ e (half (half-length-before-remove-half-call-2 c)) (remove-half-before-remove-half-call-2 c .remove-half .ensures x)),
     )
 
 same-length : tie.Need-same-length
@@ -81,11 +90,11 @@ same-length-3 c = search needs
 
 returns : tie.Need-returns
 returns c =
-    let cut = c .before .before .before .before .before .before .before .before .before .before .before .before .before .before in
-    let s = cut .before .before .before .before .before in
+    let cut = half-length-before-remove-half-call-2 (c .before .before .before .before .before) in
+    let s = start-before-half-length cut in
     let x = index (s .args .directory .now) (s .args .originals .now) (s .args .replicas .now) in
     let e = removing (s .args .ruler) (s .pre .0) x (s .args .t) (s .pre .1 .0) (s .pre .1 .1) in
-    both-back _ _ _ e (half cut) (c .before .before .before .before .before .before .before .before .before .before .before .remove-half .ensures x)
+    both-back _ _ _ e (half cut) (remove-half-before-remove-half-call-2 (c .before .before .before .before .before) .remove-half .ensures x)
     (c .before .before .before .before .remove-half2 .ensures x)
 
 pub take-out-spec : {M : Type 1} → statement M

@@ -25,9 +25,8 @@ same-length-3 c = search needs
 
 returns : tie.Need-returns
 unfolding addSaid
-returns c = left-so (c .in-numbers .ensures)
-    (rw (c .before .before .before .before .before .before .before .before .before .before .before .of .ensures) at
-    (c .before .before .before .before .before .before .before .add .ensures))
+returns c = let at-directory = c .before .before .before .before .before .before in left-so (c .in-numbers .ensures)
+    (rw (at-directory .before .before .before .before .before .of .ensures) at (at-directory .before .add .ensures))
 
 pub kheyambo-add-spec : {M : Type 1} → statement M
 kheyambo-add-spec =

@@ -5,6 +5,10 @@ use borrow.Author.Needs.{needs}
 use Rattle.export.proofs.kheyambo_build.Statement.{statement}
 use Rattle.export.proofs.kheyambo_build.Tie as tie
 
+-- the places that facts are taken from
+abbrev build-before-replicas : tie.After-replicas → tie.After-build
+build-before-replicas c = c .before .before .before .before .before
+
 build-requires : tie.Need-build-requires
 build-requires c κs = search needs
 
@@ -22,7 +26,7 @@ same-length-3 c = search needs
 
 returns : tie.Need-returns
 unfolding buildSaid
-returns c = left-so (c .in-numbers .ensures) (c .before .before .before .before .before .before .before .build .ensures)
+returns c = left-so (c .in-numbers .ensures) (build-before-replicas (c .before .before) .build .ensures)
 
 pub kheyambo-build-spec : {M : Type 1} → statement M
 kheyambo-build-spec =

@@ -11,6 +11,10 @@ use Rattle.export.proofs.kheyambo_census.Statement.{statement}
 use Rattle.export.proofs.kheyambo_census.Tie as tie
 use Rattle.ruler.specs.Ruler.{numbersOf}
 
+-- the places that facts are taken from
+abbrev start-before-outcome-of : tie.After-outcome-of → tie.Start
+start-before-outcome-of c = c .before .before .before .before .before .before
+
 open-requires : tie.Need-open-requires
 open-requires c κs = search needs
 
@@ -29,7 +33,7 @@ in-numbers-requires c κs = search needs
 returns : tie.Need-returns
 unfolding censusSaid checkSaid
 returns c =
-    let a = c .before .before .before .before .before .before .before .args in
+    let a = start-before-outcome-of (c .before) .args in
     let x = index (a .directory .now) (a .originals .now) (a .replicas .now) in
     let said = c .before .outcome-of .ensures ∙ ap outcomeOf (c .before .before .before .«open» .ensures) ∙ told (numbersOf (a .w) (a .m)) x in
     counted-so (c .in-numbers .ensures ∙ ap saidOf said)

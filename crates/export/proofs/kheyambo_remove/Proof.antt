@@ -5,6 +5,10 @@ use borrow.Author.Needs.{needs}
 use Rattle.export.proofs.kheyambo_remove.Statement.{statement}
 use Rattle.export.proofs.kheyambo_remove.Tie as tie
 
+-- the places that facts are taken from
+abbrev remove-before-replicas : tie.After-replicas → tie.After-remove
+remove-before-replicas c = c .before .before .before .before .before
+
 remove-requires : tie.Need-remove-requires
 remove-requires c κs = search needs
 
@@ -22,7 +26,7 @@ same-length-3 c = search needs
 
 returns : tie.Need-returns
 unfolding removeSaid
-returns c = left-so (c .in-numbers .ensures) (c .before .before .before .before .before .before .before .remove .ensures)
+returns c = left-so (c .in-numbers .ensures) (remove-before-replicas (c .before .before) .remove .ensures)
 
 pub kheyambo-remove-spec : {M : Type 1} → statement M
 kheyambo-remove-spec =

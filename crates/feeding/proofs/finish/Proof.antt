@@ -5,6 +5,13 @@ use borrow.Author.Needs.{needs}
 use Rattle.feeding.proofs.finish.Statement.{statement}
 use Rattle.feeding.proofs.finish.Tie as tie
 
+-- the places that facts are taken from
+abbrev start-before-body : tie.After-struct-known → tie.Start
+start-before-body c = c .before .before .before .before .before .before
+
+abbrev line-done-before-replicas : tie.After-replicas → tie.After-line-done
+line-done-before-replicas c = c .before .before .before .before .before
+
 line-done-requires : tie.Need-line-done-requires
 line-done-requires c κs = search needs
 
@@ -25,9 +32,9 @@ same-length-5 c = search needs
 
 returns : tie.Need-returns
 returns c =
-    let done = c .before .before .before .before .before .before .before .before .before .before in
+    let done = line-done-before-replicas (c .before .before .before .before .before) in
     let test = done .before .before .before .before .before .before in
-    let g = test .before .before .before .before .before .before .before in
+    let g = start-before-body (test .before) in
     let a = g .args in
     end-line (a .standing) (index (a .directory .now) (a .originals .now) (a .replicas .now)) (a .answers .now) (g .pre .0)
     (test .if1 .taken) (done .line-done .ensures)
@@ -37,7 +44,7 @@ silent-requires c κs = search needs
 
 returns-2 : tie.Need-returns-2
 returns-2 c =
-    let g = c .before .before .before .before .before .before .before .before in
+    let g = start-before-body (c .before .before) in
     let a = g .args in
     end-silent (a .standing) (index (a .directory .now) (a .originals .now) (a .replicas .now)) (a .answers .now) (g .pre .0)
     (c .before .if1 .left) (c .silent .ensures _ _ _)

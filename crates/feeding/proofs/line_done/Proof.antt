@@ -5,6 +5,16 @@ use borrow.Author.Needs.{needs}
 use Rattle.feeding.proofs.line_done.Statement.{statement}
 use Rattle.feeding.proofs.line_done.Tie as tie
 
+-- the places that facts are taken from
+abbrev start-before-body : tie.After-slice-known5 → tie.Start
+start-before-body c = c .before .before .before .before .before
+
+abbrev start-before-turn-arg4 : tie.After-turn-arg4 → tie.Start
+start-before-turn-arg4 c = start-before-body (c .before .before .before .before .before .before)
+
+abbrev after-turn-before-replicas : tie.After-replicas → tie.After-turn
+after-turn-before-replicas c = c .before .before .before .before .before
+
 sub-turn : tie.Need-sub-turn
 sub-turn c = search needs
 
@@ -12,7 +22,7 @@ part-turn-start : tie.Need-part-turn-start
 part-turn-start c = search needs
 
 part-turn-end : tie.Need-part-turn-end
-part-turn-end c = let g = c .before .before .before .before .before .before .before in omega (arith, g .pre .0 .within, line-room (g .pre .0))
+part-turn-end c = let g = start-before-body (c .before .before) in omega (arith, g .pre .0 .within, line-room (g .pre .0))
 
 turn-requires : tie.Need-turn-requires
 turn-requires c κs = search needs
@@ -34,8 +44,8 @@ same-length-5 c = search needs
 
 returns : tie.Need-returns
 returns c =
-    let turned = c .before .before .before .before .before .before .before .before .before .before .before in
-    let g = turned .before .before .before .before .before .before .before .before .before .before .before .before .before .before in
+    let turned = after-turn-before-replicas (c .before .before .before .before .before .before) in
+    let g = start-before-turn-arg4 (turned .before .before .before) in
     line-left (g .args .standing) _ _ (g .pre .0) (turned .turn .ensures)
 
 pub line-done-spec : {M : Type 1} → statement M

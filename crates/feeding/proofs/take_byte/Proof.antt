@@ -6,12 +6,19 @@ use borrow.Author.Needs.{needs}
 use Rattle.feeding.proofs.take_byte.Statement.{statement}
 use Rattle.feeding.proofs.take_byte.Tie as tie
 
+-- the places that facts are taken from
+abbrev start-before-body : tie.After-struct-known → tie.Start
+start-before-body c = c .before .before .before .before .before .before
+
+abbrev line-done-before-replicas : tie.After-replicas → tie.After-line-done
+line-done-before-replicas c = c .before .before .before .before .before
+
 silent-requires : tie.Need-silent-requires
 silent-requires c κs = search needs
 
 returns : tie.Need-returns
 returns c =
-    let a = c .before .before .before .before .before .before .before .before .args in
+    let a = start-before-body (c .before .before) .args in
     byte-over (a .standing) (index (a .directory .now) (a .originals .now) (a .replicas .now)) (a .answers .now) (a .byte)
     (not-true _ (c .before .if1 .taken)) (c .silent .ensures _ _ _)
 
@@ -35,9 +42,9 @@ same-length-5 c = search needs
 
 returns-2 : tie.Need-returns-2
 returns-2 c =
-    let done = c .before .before .before .before .before .before .before .before .before .before in
+    let done = line-done-before-replicas (c .before .before .before .before .before) in
     let test = done .before .before .before .before .before .before in
-    let a = test .before .before .before .before .before .before .before .before .args in
+    let a = start-before-body (test .before .before) .args in
     byte-ends (a .standing) (index (a .directory .now) (a .originals .now) (a .replicas .now)) (a .answers .now) (a .byte)
     (not-false _ (test .before .if1 .left)) (test .if2 .taken) (done .line-done .ensures)
 
@@ -50,7 +57,7 @@ silent-requires-2 c κs = search needs
 returns-3 : tie.Need-returns-3
 returns-3 c =
     let test = c .before .before in
-    let a = test .before .before .before .before .before .before .before .before .args in
+    let a = start-before-body (test .before .before) .args in
     byte-stays (a .standing) (index (a .directory .now) (a .originals .now) (a .replicas .now)) (a .answers .now) (a .byte)
     (not-false _ (test .before .if1 .left)) (test .if2 .left) (c .before .keep-byte .ensures .1 _ _) (c .silent2 .ensures _ _ _)
 

@@ -14,6 +14,13 @@ abbrev μ-loop : tie.MeasureT-loop
 μ-loop directory₀ originals₀ replicas₀ answers₀ out₀ input₀ standing₀ turns₀ directory originals replicas answers out input standing turns =
     turns
 
+-- the places that facts are taken from
+abbrev else1-before-take-chunk-arg5 : tie.After-take-chunk-arg5 Inv-loop μ-loop → tie.Else1 Inv-loop μ-loop
+else1-before-take-chunk-arg5 c = c .before .before .before .before .before .before
+
+abbrev loop-before-goes-on : tie.After-goes-on Inv-loop μ-loop → tie.At-loop Inv-loop μ-loop
+loop-before-goes-on c = else1-before-take-chunk-arg5 (c .before .before .before) .before .before .before .before
+
 begin-requires : tie.Need-begin-requires Inv-loop μ-loop
 begin-requires c κs = search needs
 
@@ -43,7 +50,7 @@ goes-on-requires c κs = search needs
 
 returns-2 : tie.Need-returns-2 Inv-loop μ-loop
 returns-2 c = let fed = c .before .before .take-chunk .ensures in
-    (fed .0, reached-more _ (c .before .before .before .before .before .before .before .before .before .before .before .before .before .before .loop .inv .1) (fed .1))
+    (fed .0, reached-more _ (loop-before-goes-on (c .before) .loop .inv .1) (fed .1))
 
 sub-turns : tie.Need-sub-turns Inv-loop μ-loop
 sub-turns c = search needs
@@ -53,7 +60,7 @@ loop-less c = search needs
 
 loop-again : tie.Need-loop-again Inv-loop μ-loop
 loop-again c = let fed = c .before .before .take-chunk .ensures in
-    (fed .0, reached-more _ (c .before .before .before .before .before .before .before .before .before .before .before .before .before .before .loop .inv .1) (fed .1))
+    (fed .0, reached-more _ (loop-before-goes-on (c .before) .loop .inv .1) (fed .1))
 
 returns-3 : tie.Need-returns-3 Inv-loop μ-loop
 returns-3 c = search needs

@@ -12,6 +12,10 @@ use borrow.Author.Needs.{needs}
 use Rattle.verify.proofs.is_index.Statement.{statement}
 use Rattle.verify.proofs.is_index.Tie as tie
 
+-- the places that facts are taken from
+abbrev start-before-half-length : tie.After-half-length → tie.Start
+start-before-half-length c = c .before .before .before .before .before
+
 bottom-requires : tie.Need-bottom-requires
 bottom-requires c κs = search needs
 
@@ -19,12 +23,12 @@ half-length-requires : tie.Need-half-length-requires
 half-length-requires c κs = let g = c .before .before .before .before in rw (c .bottom .ensures) (deep-ruler (g .args .ruler) (g .pre .0))
 
 -- where the code cuts
-half : (c : tie.After-half-length) → c .half-length .result ≡ halfLength (scale (c .before .before .before .before .before .args .ruler) .m)
+half : (c : tie.After-half-length) → c .half-length .result ≡ halfLength (scale (start-before-half-length c .args .ruler) .m)
 half c = c .half-length .ensures ∙ ap halfLength (c .before .bottom .ensures)
 
 both : (c : tie.After-half-length)
-    → length (c .before .before .before .before .before .args .directory .now) ≡ c .half-length .result + c .half-length .result
-both c = two-halves _ (c .before .before .before .before .before .pre .1) (half c)
+    → length (start-before-half-length c .args .directory .now) ≡ c .half-length .result + c .half-length .result
+both c = two-halves _ (start-before-half-length c .pre .1) (half c)
 
 sub-locally : tie.Need-sub-locally
 sub-locally c = search needs
@@ -49,12 +53,12 @@ part-locally-end-2 c = search needs
 
 locally-requires : tie.Need-locally-requires
 locally-requires c κs =
-    let g = c .before .before .before .before .before .before .before in
+    let g = start-before-half-length (c .before .before) in
     (g .pre .0, halves-long (g .args .ruler) (g .args .directory .now) (g .pre .0) (g .pre .1) (half (c .before .before)))
 
 returns : tie.Need-returns
 returns c =
-    let g = c .before .before .before .before .before .before .before .before in
+    let g = start-before-half-length (c .before .before .before) in
     let a = g .args in
     c .locally .ensures ∙ sym (halves-index (a .ruler) (a .directory .now) (g .pre .0) (g .pre .1) (half (c .before .before .before))
     (a .originals .now) (a .replicas .now))

@@ -6,6 +6,10 @@ use Rattle.verify.proofs.TestsPassed.{some-words}
 use Rattle.verify.proofs.locally.Statement.{statement}
 use Rattle.verify.proofs.locally.Tie as tie
 
+-- the places that facts are taken from
+abbrev start-before-else1 : tie.Else1 → tie.Start
+start-before-else1 c = c .before .before .before .before .before .before
+
 halves-ok-requires : tie.Need-halves-ok-requires
 halves-ok-requires c κs =
     let g = c .before .before .before .before in
@@ -19,7 +23,7 @@ returns c =
 
 all-slots-ok-requires : tie.Need-all-slots-ok-requires
 all-slots-ok-requires c κs =
-    let g = c .before .before .before .before .before .before in
+    let g = start-before-else1 c in
     (g .pre .0, (g .pre .1, sym (c .before .halves-ok .ensures) ∙ not-false _ (c .if1 .left)))
 
 returns-2 : tie.Need-returns-2
@@ -31,7 +35,7 @@ returns-2 c =
 
 trips-ok-requires : tie.Need-trips-ok-requires
 trips-ok-requires c κs =
-    let g = c .before .before .before .before .before .before .before .before in
+    let g = start-before-else1 (c .before .before) in
     let halves = sym (c .before .before .before .halves-ok .ensures) ∙ not-false _ (c .before .before .if1 .left) in
     (g .pre .0, (g .pre .1, (halves, sym (c .before .all-slots-ok .ensures) ∙ not-false _ (c .if2 .left))))
 

@@ -17,6 +17,10 @@ use Rattle.layout.proofs.RulerCells.{deep-ruler}
 use Rattle.verify.proofs.open.Statement.{statement}
 use Rattle.verify.proofs.open.Tie as tie
 
+-- the places that facts are taken from
+abbrev new-before-else1 : tie.Else1 → tie.After-new
+new-before-else1 c = c .before .before .before .before .before .before
+
 new-requires : tie.Need-new-requires
 new-requires c κs = search needs
 
@@ -51,14 +55,14 @@ returns-2 c =
 is-index-requires : tie.Need-is-index-requires
 is-index-requires c κs =
     let ruler = c .before .before .before .before .ruler .given in
-    let made = judged-good _ (ruler .0 .0) (sym (c .before .before .before .before .before .before .new .ensures) ∙ ruler .1) in
+    let made = judged-good _ (ruler .0 .0) (sym (new-before-else1 c .new .ensures) ∙ ruler .1) in
     (rw (made .numbers) (made .good), c .if1 .left ∙ c .before .directory-length .ensures ∙ ap directoryLength (c .before .before .bottom .ensures))
 
 returns-3 : tie.Need-returns-3
 unfolding refuse openedAs
 returns-3 c =
     let ruler = c .before .before .before .before .before .before .ruler .given in
-    let made = judged-good _ (ruler .0 .0) (sym (c .before .before .before .before .before .before .before .before .new .ensures) ∙ ruler .1) in
+    let made = judged-good _ (ruler .0 .0) (sym (new-before-else1 (c .before .before) .new .ensures) ∙ ruler .1) in
     let bottom = c .before .before .before .before .bottom .ensures ∙ ap (λ (k : Numbers). scaleOf k .m) (made .numbers) in
     let long = c .before .before .before .directory-length .ensures ∙ ap directoryLength bottom in
     let refused = rw (made .numbers) at (sym (c .before .is-index .ensures) ∙ not-true _ (c .if2 .taken)) in
@@ -68,7 +72,7 @@ returns-4 : tie.Need-returns-4
 unfolding refuse openedAs
 returns-4 c =
     let ruler = c .before .before .before .before .before .before .ruler .given in
-    let made = judged-good _ (ruler .0 .0) (sym (c .before .before .before .before .before .before .before .before .new .ensures) ∙ ruler .1) in
+    let made = judged-good _ (ruler .0 .0) (sym (new-before-else1 (c .before .before) .new .ensures) ∙ ruler .1) in
     let bottom = c .before .before .before .before .bottom .ensures ∙ ap (λ (k : Numbers). scaleOf k .m) (made .numbers) in
     let long = c .before .before .before .directory-length .ensures ∙ ap directoryLength bottom in
     let passed = rw (made .numbers) at (sym (c .before .is-index .ensures) ∙ not-false _ (c .if2 .left)) in

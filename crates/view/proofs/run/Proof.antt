@@ -11,6 +11,10 @@ use borrow.Author.Needs.{needs}
 use Rattle.view.proofs.run.Statement.{statement}
 use Rattle.view.proofs.run.Tie as tie
 
+-- the places that facts are taken from
+abbrev start-before-half-of : tie.After-half-of → tie.Start
+start-before-half-of c = c .before .before .before .before .before .before
+
 run-place-requires : tie.Need-run-place-requires
 run-place-requires c κs = search needs
 
@@ -25,7 +29,7 @@ arena-of-requires c κs = search needs
 
 add-to : tie.Need-add-to
 add-to c =
-    let a = c .before .before .before .before .before .before .before .before .args in
+    let a = start-before-half-of (c .before .before) .args in
     let x = index (a .directory .now) (a .originals .now) (a .replicas .now) in
     let p = c .before .before .before .before .run-place .ensures in
     omega (
@@ -37,7 +41,7 @@ add-to c =
 
 mul-result : tie.Need-mul-result
 mul-result c =
-    let a = c .before .before .before .before .before .before .before .before .args in
+    let a = start-before-half-of (c .before .before) .args in
     let x = index (a .directory .now) (a .originals .now) (a .replicas .now) in
     let p = c .before .before .before .before .run-place .ensures in
     omega (
@@ -55,7 +59,7 @@ part-result-start c = search needs
 
 part-result-end : tie.Need-part-result-end
 part-result-end c =
-    let a = c .before .before .before .before .before .before .before .before .args in
+    let a = start-before-half-of (c .before .before) .args in
     let x = index (a .directory .now) (a .originals .now) (a .replicas .now) in
     let p = c .before .before .before .before .run-place .ensures in
     let half = c .before .before .half-of .ensures ∙ ap halfOf (c .before .before .before .numbered .ensures) in
@@ -63,7 +67,7 @@ part-result-end c =
 
 returns : tie.Need-returns
 returns c =
-    let a = c .before .before .before .before .before .before .before .before .before .args in
+    let a = start-before-half-of (c .before .before .before) .args in
     let x = index (a .directory .now) (a .originals .now) (a .replicas .now) in
     let p = c .before .before .before .before .before .run-place .ensures in
     let half = c .before .before .before .half-of .ensures ∙ ap halfOf (c .before .before .before .before .numbered .ensures) in

@@ -7,6 +7,19 @@ use borrow.Author.Needs.{needs}
 use Rattle.view.proofs.run_place.Statement.{statement}
 use Rattle.view.proofs.run_place.Tie as tie
 
+-- the places that facts are taken from
+abbrev start-before-open : tie.After-open → tie.Start
+start-before-open c = c .before .before .before .before
+
+abbrev opened-before-bottom : tie.After-bottom → tie.After-opened
+opened-before-bottom c = c .before .before .before .before .before
+
+abbrev open-before-bottom : tie.After-bottom → tie.After-open
+open-before-bottom c = opened-before-bottom c .before .before
+
+abbrev start-before-bottom : tie.After-bottom → tie.Start
+start-before-bottom c = start-before-open (open-before-bottom c)
+
 open-requires : tie.Need-open-requires
 open-requires c κs = search needs
 
@@ -15,7 +28,7 @@ enum-known-opened c = search needs
 
 no-such-slot-requires : tie.Need-no-such-slot-requires
 no-such-slot-requires c κs =
-    let a = c .before .before .before .before .before .before .before .args in
+    let a = start-before-open (c .before .before .before) .args in
     let x = index (a .directory .now) (a .originals .now) (a .replicas .now) in
     let is = c .before .opened .given in
     let w = opened (a .numbers) x (is .0 .0) (c .before .before .before .«open» .ensures) (is .1) in
@@ -26,7 +39,7 @@ no-place-requires c κs = search needs
 
 returns : tie.Need-returns
 returns c =
-    let a = c .before .before .before .before .before .before .before .before .before .before .args in
+    let a = start-before-open (c .before .before .before .before .before .before) .args in
     let x = index (a .directory .now) (a .originals .now) (a .replicas .now) in
     let is = c .before .before .before .before .opened .given in
     let w = opened (a .numbers) x (is .0 .0) (c .before .before .before .before .before .before .«open» .ensures) (is .1) in
@@ -41,19 +54,19 @@ bottom-requires c κs = search needs
 
 slot-at-requires : tie.Need-slot-at-requires
 slot-at-requires c κs =
-    let a = c .before .before .before .before .before .before .before .before .before .before .before .args in
+    let a = start-before-bottom c .args in
     let x = index (a .directory .now) (a .originals .now) (a .replicas .now) in
-    let is = c .before .before .before .before .before .opened .given in
-    let w = opened (a .numbers) x (is .0 .0) (c .before .before .before .before .before .before .before .«open» .ensures) (is .1) in
+    let is = opened-before-bottom c .opened .given in
+    let w = opened (a .numbers) x (is .0 .0) (open-before-bottom c .«open» .ensures) (is .1) in
     slot-named (a .numbers) x (a .level) (a .partition) (a .subdivision) (is .0 .0) w
     (sym (c .before .before .before .no-such-slot .ensures) ∙ c .before .before .if1 .left) _ (c .bottom .ensures)
 
 slot-place-requires : tie.Need-slot-place-requires
 slot-place-requires c κs =
-    let a = c .before .before .before .before .before .before .before .before .before .before .before .before .args in
+    let a = start-before-bottom (c .before) .args in
     let x = index (a .directory .now) (a .originals .now) (a .replicas .now) in
     let is = c .before .before .before .before .before .before .opened .given in
-    let w = opened (a .numbers) x (is .0 .0) (c .before .before .before .before .before .before .before .before .«open» .ensures) (is .1) in
+    let w = opened (a .numbers) x (is .0 .0) (open-before-bottom (c .before) .«open» .ensures) (is .1) in
     slot-there (a .numbers) x (a .level) (a .partition) (a .subdivision) (is .0 .0) w
     (sym (c .before .before .before .before .no-such-slot .ensures) ∙ c .before .before .before .if1 .left) _
     (c .before .before .numbered .ensures) _ _ (c .before .bottom .ensures) (c .slot-at .ensures)
@@ -66,10 +79,10 @@ no-place-requires-2 c κs = search needs
 
 returns-2 : tie.Need-returns-2
 returns-2 c =
-    let a = c .before .before .before .before .before .before .before .before .before .before .before .before .before .args in
+    let a = start-before-bottom (c .before .before) .args in
     let x = index (a .directory .now) (a .originals .now) (a .replicas .now) in
-    let is = c .before .before .before .before .before .before .before .opened .given in
-    let w = opened (a .numbers) x (is .0 .0) (c .before .before .before .before .before .before .before .before .before .«open» .ensures) (is .1) in
+    let is = opened-before-bottom (c .before .before) .opened .given in
+    let w = opened (a .numbers) x (is .0 .0) (open-before-bottom (c .before .before) .«open» .ensures) (is .1) in
     c .slot-place .ensures ∙ place-there (a .numbers) x (a .level) (a .partition) (a .subdivision) (is .0 .0) w
     (sym (c .before .before .before .before .before .no-such-slot .ensures) ∙ c .before .before .before .before .if1 .left) _
     (c .before .before .before .numbered .ensures) _ _ (c .before .before .bottom .ensures)
@@ -77,7 +90,7 @@ returns-2 c =
 
 returns-3 : tie.Need-returns-3
 returns-3 c =
-    let a = c .before .before .before .before .before .before .before .before .args in
+    let a = start-before-open (c .before .before .before .before) .args in
     let x = index (a .directory .now) (a .originals .now) (a .replicas .now) in
     c .no-place2 .ensures ∙ place-shut (a .numbers) x (a .level) (a .partition) (a .subdivision) _
     (c .before .before .before .before .«open» .ensures) (c .before .before .opened2 .given .1)

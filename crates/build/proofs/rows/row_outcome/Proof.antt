@@ -13,6 +13,16 @@ use borrow.Author.Needs.{needs}
 use Rattle.build.proofs.rows.row_outcome.Statement.{statement}
 use Rattle.build.proofs.rows.row_outcome.Tie as tie
 
+-- the places that facts are taken from
+abbrev start-before-is-accepted : tie.After-is-accepted → tie.Start
+start-before-is-accepted c = c .before .before .before .before .before .before
+
+abbrev trip-at-before-id-taken : tie.After-id-taken → tie.After-trip-at
+trip-at-before-id-taken c = c .before .before .before .before .before .before
+
+abbrev time-outcome-before-then3 : tie.Then3 → tie.After-time-outcome
+time-outcome-before-then3 c = c .before .before .before .before .before .before
+
 trip-at-requires : tie.Need-trip-at-requires
 trip-at-requires c κs = search needs
 
@@ -27,7 +37,7 @@ is-accepted-requires c κs = search needs
 
 returns : tie.Need-returns
 returns c =
-    let g = c .before .before .before .before .before .before .before in
+    let g = start-before-is-accepted (c .before) in
     let table = g .args .table .now in
     let s = scale (g .args .ruler) in
     let back = rowsBack table (g .args .i) in
@@ -38,7 +48,7 @@ returns c =
 
 id-taken-requires : tie.Need-id-taken-requires
 id-taken-requires c κs =
-    let g = c .before .before .before .before .before .before .before in
+    let g = start-before-is-accepted (c .before) in
     (g .pre .1 .0 .0, (ap (λ (u : Trip). u .id) (c .before .before .before .before .before .trip-at .ensures), g .pre .1 .1))
 
 refused-requires : tie.Need-refused-requires
@@ -47,11 +57,11 @@ refused-requires c κs = search needs
 returns-2 : tie.Need-returns-2
 unfolding refuse
 returns-2 c =
-    let g = c .before .before .before .before .before .before .before .before .before .before in
+    let g = start-before-is-accepted (c .before .before .before .before) in
     let table = g .args .table .now in
     let s = scale (g .args .ruler) in
     let back = rowsBack table (g .args .i) in
-    let read = c .before .before .before .before .before .before .before .before .trip-at in
+    let read = trip-at-before-id-taken (c .before .before) .trip-at in
     let times = c .before .before .before .before .before .time-outcome .ensures in
     let is-row = ap (λ (u : Trip). rowTests s back u (g .args .i) Accepted) (read .ensures) in
     let fine = sym (c .before .before .before .before .is-accepted .ensures) ∙ not-false _ (c .before .before .before .if1 .left) in
@@ -60,11 +70,11 @@ returns-2 c =
 
 partitions-holding-requires : tie.Need-partitions-holding-requires
 partitions-holding-requires c κs =
-    let g = c .before .before .before .before .before .before .before .before .before in
+    let g = start-before-is-accepted (c .before .before .before) in
     let table = g .args .table .now in
     let s = scale (g .args .ruler) in
     let back = rowsBack table (g .args .i) in
-    let read = c .before .before .before .before .before .before .before .trip-at in
+    let read = trip-at-before-id-taken (c .before) .trip-at in
     let times = c .before .before .before .before .time-outcome .ensures in
     let fine = sym (c .before .before .before .is-accepted .ensures) ∙ not-false _ (c .before .before .if1 .left) in
     (g .pre .0, row-fits s back (read .result) (g .args .i) _ times fine)
@@ -75,12 +85,12 @@ refused-requires-2 c κs = search needs
 returns-3 : tie.Need-returns-3
 unfolding refuse inTooMany
 returns-3 c =
-    let g = c .before .before .before .before .before .before .before .before .before .before .before .before in
+    let g = start-before-is-accepted (c .before .before .before .before .before .before) in
     let table = g .args .table .now in
     let s = scale (g .args .ruler) in
     let back = rowsBack table (g .args .i) in
-    let read = c .before .before .before .before .before .before .before .before .before .before .trip-at in
-    let times = c .before .before .before .before .before .before .before .time-outcome .ensures in
+    let read = trip-at-before-id-taken (c .before .before .before .before) .trip-at in
+    let times = time-outcome-before-then3 (c .before) .time-outcome .ensures in
     let is-row = ap (λ (u : Trip). rowTests s back u (g .args .i) Accepted) (read .ensures) in
     let fine = sym (c .before .before .before .before .before .before .is-accepted .ensures)
     ∙ not-false _ (c .before .before .before .before .before .if1 .left) in
@@ -92,11 +102,11 @@ returns-3 c =
 returns-4 : tie.Need-returns-4
 unfolding refuse inTooMany
 returns-4 c =
-    let g = c .before .before .before .before .before .before .before .before .before .before .before in
+    let g = start-before-is-accepted (c .before .before .before .before .before) in
     let table = g .args .table .now in
     let s = scale (g .args .ruler) in
     let back = rowsBack table (g .args .i) in
-    let read = c .before .before .before .before .before .before .before .before .before .trip-at in
+    let read = trip-at-before-id-taken (c .before .before .before) .trip-at in
     let times = c .before .before .before .before .before .before .time-outcome .ensures in
     let is-row = ap (λ (u : Trip). rowTests s back u (g .args .i) Accepted) (read .ensures) in
     let fine = sym (c .before .before .before .before .before .is-accepted .ensures) ∙ not-false _ (c .before .before .before .before .if1 .left) in

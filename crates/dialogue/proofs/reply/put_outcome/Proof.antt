@@ -13,6 +13,13 @@ use borrow.Author.Needs.{needs}
 use Rattle.dialogue.proofs.reply.put_outcome.Statement.{statement}
 use Rattle.dialogue.proofs.reply.put_outcome.Tie as tie
 
+-- the places that facts are taken from
+abbrev put2-before-put-number : tie.After-put-number → tie.After-put2
+put2-before-put-number c = c .before .before .before .before .before
+
+abbrev body-before-put-number : tie.After-put-number → tie.After-slice-known
+body-before-put-number c = put2-before-put-number c .before .before .before .before .before .before
+
 enum-told : tie.Need-enum-told
 enum-told c = search needs
 
@@ -42,11 +49,11 @@ slice-aggregate-put-3 c = search needs
 
 put-requires-3 : tie.Need-put-requires-3
 put-requires-3 c κs =
-    let w = c .before .before .before .before .before .before .before .before .before .put2 .ensures in
+    let w = put2-before-put-number (c .before .before .before .before) .put2 .ensures in
     let n = c .before .before .before .before .put-number .ensures in
     let few = ten-digits (c .before .before .before .before .before .refusal-number .result) (omega arith) in
     let long : length (c .before .before .before .before .put-number .last .0)
-    ≡ length (c .before .before .before .before .before .before .before .before .before .before .before .before .before .before .before .before .args .reply .now) =
+    ≡ length (body-before-put-number (c .before .before .before .before) .before .args .reply .now) =
     ap length (n .1) ∙ simp length-sets (ap length (w .1) ∙ simp length-sets) in
     omega (arith, w .0, n .0)
 
@@ -64,18 +71,17 @@ same-length-2 c = search needs
 returns-2 : tie.Need-returns-2
 unfolding asLine outcomeBytes refusedBytes
 returns-2 c =
-    let r = c .before .before .before .before .before .before .before .before .refusal-number in
-    let three = three-puts
-    (c .before .before .before .before .before .before .before .before .before .before .before .before .before .before .before .before .before .before .before .args .reply .now)
-    (refusedBytes ++ (space ∷ [])) (decimal (r .result)) (newline ∷ [])
-    (c .before .before .before .before .before .before .before .before .before .before .before .before .put2 .ensures)
-    (c .before .before .before .before .before .before .before .put-number .ensures) (c .before .before .put3 .ensures) in
+    let at-reply3 = c .before .before .before .before .before .before in
+    let at-put2 = at-reply3 .before .before .before .before .before .before in
+    let at-outcome = at-put2 .before .before .before .before in
+    let r = at-reply3 .before .before .refusal-number in
+    let three = three-puts (at-outcome .before .before .before .args .reply .now) (refusedBytes ++ (space ∷ [])) (decimal (r .result)) (newline ∷ [])
+    (at-put2 .put2 .ensures) (at-reply3 .before .put-number .ensures) (c .before .before .put3 .ensures) in
     let few = ten-digits (r .result) (omega arith) in
-    let w = c .before .before .before .before .before .before .before .before .before .before .before .before .put2 .ensures in
-    let n = c .before .before .before .before .before .before .before .put-number .ensures in
+    let w = at-put2 .put2 .ensures in
+    let n = at-reply3 .before .put-number .ensures in
     let whole = rw (r .ensures) at three in
-    rw (c .before .before .before .before .before .before .before .before .before .before .before .before .before .before .before .before .outcome .given .1)
-    (whole .0, whole .1, omega (arith, w .0, n .0, c .before .before .put3 .ensures .0))
+    rw (at-outcome .outcome .given .1) (whole .0, whole .1, omega (arith, w .0, n .0, c .before .before .put3 .ensures .0))
 
 pub put-outcome-spec : {M : Type 1} → statement M
 put-outcome-spec =

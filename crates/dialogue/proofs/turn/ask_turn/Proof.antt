@@ -9,6 +9,16 @@ use borrow.Author.Needs.{needs}
 use Rattle.dialogue.proofs.turn.ask_turn.Statement.{statement}
 use Rattle.dialogue.proofs.turn.ask_turn.Tie as tie
 
+-- the places that facts are taken from
+abbrev start-before-body : tie.After-slice-known2 → tie.Start
+start-before-body c = c .before .before .before .before .before
+
+abbrev ask-before-answers2 : tie.After-answers2 → tie.After-ask
+ask-before-answers2 c = c .before .before .before .before .before
+
+abbrev start-before-answers2 : tie.After-answers2 → tie.Start
+start-before-answers2 c = start-before-body (ask-before-answers2 c .before .before .before .before .before)
+
 directory-words-requires : tie.Need-directory-words-requires
 directory-words-requires c κs = search needs
 
@@ -19,7 +29,7 @@ part-ask-start : tie.Need-part-ask-start
 part-ask-start c = search needs
 
 part-ask-end : tie.Need-part-ask-end
-part-ask-end c = let g = c .before .before .before .before .before .before .before in
+part-ask-end c = let g = start-before-body (c .before .before) in
     in-front (g .args .desk .numbers) (g .args .directory .now) (c .directory-words .ensures) (g .pre .0) (g .pre .1)
 
 ask-requires : tie.Need-ask-requires
@@ -36,13 +46,13 @@ part-put-answer-start c = search needs
 
 part-put-answer-end : tie.Need-part-put-answer-end
 part-put-answer-end c =
-    let a = c .before .before .before .before .before .before .before .before .before .before .before .before .before .before .before .args in
-    count-within (scaleOf (a .desk .numbers)) _ (a .asking) (a .answers .now) (c .before .before .before .before .before .ask .ensures)
+    let a = start-before-answers2 c .args in
+    count-within (scaleOf (a .desk .numbers)) _ (a .asking) (a .answers .now) (ask-before-answers2 c .ask .ensures)
     (c .before .before .before .before .answers .given)
 
 put-answer-requires : tie.Need-put-answer-requires
 put-answer-requires c κs =
-    let a = c .before .before .before .before .before .before .before .before .before .before .before .before .before .before .before .before .args in
+    let a = start-before-answers2 (c .before) .args in
     let asked = c .before .before .before .before .before .before .ask in
     let kept = c .before .before .before .before .before .answers .given in
     let within = count-within (scaleOf (a .desk .numbers)) _ (a .asking) (a .answers .now) (asked .ensures) kept in
@@ -60,12 +70,11 @@ same-length-2 c = search needs
 
 returns : tie.Need-returns
 returns c =
-    let a = c .before .before .before .before .before .before .before .before .before .before .before .before .before .before .before .before .before .before .before .before .args
-    in
-    let n = c .before .before .before .before .before .before .before .before .before .before .before .before .before .directory-words in
+    let a = start-before-answers2 (c .before .before .before .before .before) .args in
+    let n = ask-before-answers2 (c .before .before .before .before .before) .before .before .before .directory-words in
     let call : Index → Asked = λ x. askOf (scaleOf (a .desk .numbers)) x (a .asking) (a .answers .now) in
     rw (c .goes-on .ensures) (answered-done (a .desk .numbers) (a .directory .now) (a .originals .now) (a .replicas .now) (n .result) (n .ensures)
-    (a .desk) (a .answers .now) call (c .before .before .before .before .before .before .before .before .before .before .ask .ensures)
+    (a .desk) (a .answers .now) call (ask-before-answers2 (c .before .before .before .before .before) .ask .ensures)
     (c .before .before .before .put-answer .ensures))
 
 pub ask-turn-spec : {M : Type 1} → statement M

@@ -5,6 +5,19 @@ use borrow.Author.Needs.{needs}
 use Rattle.dialogue.proofs.turn.open_turn.Statement.{statement}
 use Rattle.dialogue.proofs.turn.open_turn.Tie as tie
 
+-- the places that facts are taken from
+abbrev start-before-directory-words : tie.After-directory-words → tie.Start
+start-before-directory-words c = c .before .before .before .before .before
+
+abbrev directory-before-put-outcome-call : tie.After-put-outcome-arg → tie.After-directory
+directory-before-put-outcome-call c = c .before .before .before .before .before .before
+
+abbrev build-before-is-accepted : tie.After-is-accepted → tie.After-build
+build-before-is-accepted c = directory-before-put-outcome-call (c .before .before .before .before) .before
+
+abbrev directory-words-before-is-accepted : tie.After-is-accepted → tie.After-directory-words
+directory-words-before-is-accepted c = build-before-is-accepted c .before .before .before .before .before .before
+
 directory-words-requires : tie.Need-directory-words-requires
 directory-words-requires c κs = search needs
 
@@ -25,7 +38,7 @@ part-build-start-2 c = search needs
 
 part-build-end-2 : tie.Need-part-build-end-2
 part-build-end-2 c =
-    let g = c .before .before .before .before .before .before .before in
+    let g = start-before-directory-words (c .before .before) in
     in-front (g .args .numbers) (g .args .directory .now) (c .before .before .directory-words .ensures) (g .pre .0) (g .pre .1)
 
 build-requires : tie.Need-build-requires
@@ -51,14 +64,12 @@ same-length-4 c = search needs
 
 returns : tie.Need-returns
 returns c =
-    let g = c .before .before .before .before .before .before .before .before .before .before .before .before .before .before .before .before .before .before .before .before .before .before
-    in
+    let g = start-before-directory-words (directory-words-before-is-accepted c) in
     let a = g .args in
-    let n = c .before .before .before .before .before .before .before .before .before .before .before .before .before .before .before .before .before .directory-words
-    in
+    let n = directory-words-before-is-accepted c .directory-words in
     λ l. opened-done (a .numbers) (a .directory .now) (a .originals .now) (a .replicas .now) (n .result) (n .ensures) (g .pre .0) (g .pre .1)
-    (a .desk) l (c .before .before .before .before .before .before .before .before .before .before .before .build .ensures) refl
-    (c .before .before .before .before .before .before .before .before .before .before .directory .given .0) (c .is-accepted .ensures)
+    (a .desk) l (build-before-is-accepted c .build .ensures) refl
+    (directory-before-put-outcome-call (c .before .before .before .before) .directory .given .0) (c .is-accepted .ensures)
     (c .before .before .before .put-outcome .ensures)
 
 pub open-turn-spec : {M : Type 1} → statement M

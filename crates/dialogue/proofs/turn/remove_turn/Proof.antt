@@ -7,6 +7,16 @@ use borrow.Author.Needs.{needs}
 use Rattle.dialogue.proofs.turn.remove_turn.Statement.{statement}
 use Rattle.dialogue.proofs.turn.remove_turn.Tie as tie
 
+-- the places that facts are taken from
+abbrev directory-before-put-outcome-call : tie.After-put-outcome-arg → tie.After-directory
+directory-before-put-outcome-call c = c .before .before .before .before .before .before
+
+abbrev directory-words-before-goes-on : tie.After-goes-on → tie.After-directory-words
+directory-words-before-goes-on c = directory-before-put-outcome-call (c .before .before .before .before) .before .before .before .before .before
+
+abbrev start-before-goes-on : tie.After-goes-on → tie.Start
+start-before-goes-on c = directory-words-before-goes-on c .before .before .before .before .before .before
+
 directory-words-requires : tie.Need-directory-words-requires
 directory-words-requires c κs = search needs
 
@@ -43,16 +53,14 @@ same-length-4 c = search needs
 
 returns : tie.Need-returns
 returns c =
-    let g = c .before .before .before .before .before .before .before .before .before .before .before .before .before .before .before .before .before .before .before .before .before
-    in
+    let g = start-before-goes-on c in
     let a = g .args in
-    let n = c .before .before .before .before .before .before .before .before .before .before .before .before .before .before .before .directory-words
-    in
-    let made = c .before .before .before .before .before .before .before .before .before .before .before .remove in
+    let n = directory-words-before-goes-on c .directory-words in
+    let made = directory-before-put-outcome-call (c .before .before .before .before) .before .remove in
     let call : Index → After = λ x. removeOf (scaleOf (a .desk .numbers)) x (a .id) in
     λ l. rw (c .goes-on .ensures) (edited-done (a .desk .numbers) (a .directory .now) (a .originals .now) (a .replicas .now) (n .result)
     (n .ensures) (g .pre .0) (g .pre .1)
-    (a .desk) l call (made .ensures) (c .before .before .before .before .before .before .before .before .before .before .directory .given .0)
+    (a .desk) l call (made .ensures) (directory-before-put-outcome-call (c .before .before .before .before) .directory .given .0)
     (c .before .before .before .put-outcome .ensures))
 
 pub remove-turn-spec : {M : Type 1} → statement M

@@ -6,6 +6,13 @@ use borrow.Author.Needs.{needs}
 use Rattle.edit.proofs.half.add_half.Statement.{statement}
 use Rattle.edit.proofs.half.add_half.Tie as tie
 
+-- the places that facts are taken from
+abbrev start-before-trip-slots : tie.After-trip-slots → tie.Start
+start-before-trip-slots c = c .before .before .before .before
+
+abbrev trip-slots-before-add-to-slots : tie.After-add-to-slots → tie.After-trip-slots
+trip-slots-before-add-to-slots c = c .before .before .before .before .before .before
+
 slice-aggregate-trip-slots : tie.Need-slice-aggregate-trip-slots
 slice-aggregate-trip-slots c = search needs
 
@@ -27,7 +34,7 @@ part-add-to-slots-end c = let g = c .before .before .before .before .trip-slots 
 
 add-to-slots-requires : tie.Need-add-to-slots-requires
 add-to-slots-requires c κs =
-    let s = c .before .before .before .before .before .before .before .before .before in
+    let s = start-before-trip-slots (c .before .before .before .before .before) in
     let g = c .before .before .before .before .before .trip-slots in
     (scale (s .args .ruler), s .pre .1 .0, s .pre .1 .1, over-front (g .result) _ _ _ (g .ensures .0) (g .ensures .1))
 
@@ -39,8 +46,8 @@ same-length-2 c = search needs
 
 returns : tie.Need-returns
 returns c =
-    let s = c .before .before .before .before .before .before .before .before .before .before .before .before .before .before in
-    let g = c .before .before .before .before .before .before .before .before .before .before .trip-slots in
+    let s = start-before-trip-slots (trip-slots-before-add-to-slots (c .before .before .before .before)) in
+    let g = trip-slots-before-add-to-slots (c .before .before .before .before) .trip-slots in
     λ x a. c .before .before .before .before .add-to-slots .ensures (scale (s .args .ruler)) x a (over-front (g .result) _ _ _ (g .ensures .0)
     (g .ensures .1))
 

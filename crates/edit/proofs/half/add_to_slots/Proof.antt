@@ -22,6 +22,13 @@ Inv-loop half dir₀ arena₀ spots t j₀ dir arena j =
 abbrev μ-loop : tie.MeasureT-loop
 μ-loop half dir₀ arena₀ spots t j₀ dir arena j = length spots - j
 
+-- the places that facts are taken from
+abbrev start-before-turn : tie.In-loop Inv-loop μ-loop → tie.Start Inv-loop μ-loop
+start-before-turn c = c .before .before .before .before .before
+
+abbrev turn-before-add-to-slot : tie.After-add-to-slot Inv-loop μ-loop → tie.In-loop Inv-loop μ-loop
+turn-before-add-to-slot c = c .before .before .before .before
+
 loop-holds : tie.Need-loop-holds Inv-loop μ-loop
 loop-holds c = let g = c .before .before .before .args in (
   omega arith,
@@ -42,7 +49,7 @@ cast-spot c = omega (arith, c .shared-slice-known2 .given (c .before .before .lo
 
 add-to-slot-requires : tie.Need-add-to-slot-requires Inv-loop μ-loop
 add-to-slot-requires c κs =
-    let s = c .before .before .before .before .before .before .before .before in
+    let s = start-before-turn (c .before .before .before) in
     let g = s .args in
     let l = c .before .before .before .before .loop in
     let a = s .pre .2 in (
@@ -59,8 +66,8 @@ loop-less c = search needs
 
 loop-again : tie.Need-loop-again Inv-loop μ-loop
 loop-again c =
-    let g = c .before .before .before .before .before .before .before .before .before .before .before .before .before .args in
-    let l = c .before .before .before .before .before .before .before .before .before .loop in (
+    let g = start-before-turn (turn-before-add-to-slot (c .before .before .before .before)) .args in
+    let l = turn-before-add-to-slot (c .before .before .before .before) .before .loop in (
       omega arith,
       omega (arith, c .before .before .before .before .add-to-slot .kept),
       omega (arith, c .before .before .before .before .add-to-slot .kept),

@@ -24,6 +24,16 @@ use borrow.Author.Needs.{needs}
 use Rattle.edit.proofs.tests.add_outcome.Statement.{statement}
 use Rattle.edit.proofs.tests.add_outcome.Tie as tie
 
+-- the places that facts are taken from
+abbrev start-before-entries-of : tie.After-entries-of → tie.Start
+start-before-entries-of c = c .before .before .before .before .before .before
+
+abbrev start-before-is-accepted : tie.After-is-accepted → tie.Start
+start-before-is-accepted c = start-before-entries-of (c .before .before .before .before)
+
+abbrev else1-before-lacks-room : tie.After-lacks-room → tie.Else1
+else1-before-lacks-room c = c .before .before .before .before .before
+
 abbrev words : tie.Start → Index
 words g = index (g .args .directory .now) (g .args .originals .now) (g .args .replicas .now)
 
@@ -35,11 +45,10 @@ in-index : (g : tie.Start) → Shown (scale (g .args .ruler)) (words g)
 in-index g = shown _ _ (checked _ _ (g .pre .1))
 
 -- as many trips, and as many replicas, as the directory says
-counted : (c : tie.After-entries-of) → (c .before .trips-of .result ≡ length (trips (c .before .before .before .before .before .before)))
-    × (c .entries-of .result ≡ length (entries (scale (c .before .before .before .before .before .before .args .ruler)) Replicas (trips
-    (c .before .before .before .before .before .before))))
+counted : (c : tie.After-entries-of) → (c .before .trips-of .result ≡ length (trips (start-before-entries-of c)))
+    × (c .entries-of .result ≡ length (entries (scale (start-before-entries-of c .args .ruler)) Replicas (trips (start-before-entries-of c))))
 counted c =
-    let g = c .before .before .before .before .before .before in
+    let g = start-before-entries-of c in
     let w = in-index g in (
       c .before .trips-of .ensures ∙ ap (λ (m : ℕ). getD (g .args .directory .now) (2 * partitions m) 0) (c .before .before .bottom .ensures)
           ∙ w .trips,
@@ -47,25 +56,22 @@ counted c =
     )
 
 -- past the first test: there may be one more trip
-few : (c : tie.Else1) → leb mostTrips (length (trips (c .before .before .before .before .before .before .before))) ≡ false
-few c = let g = c .before .before .before .before .before .before .before in
+few : (c : tie.Else1) → leb mostTrips (length (trips (start-before-entries-of (c .before)))) ≡ false
+few c = let g = start-before-entries-of (c .before) in
     lt-leb mostTrips (length (trips g)) (omega (arith, counted (c .before) .0, c .if1 .left))
 
 -- the outcome of the trip's tests among the trips of the index
 row-is : (c : tie.After-is-accepted) → c .before .trip-outcome .result
-    ≡ rowTests (scale (c .before .before .before .before .before .before .before .before .before .before .args .ruler))
-    (trips (c .before .before .before .before .before .before .before .before .before .before))
-    (c .before .before .before .before .before .before .before .before .before .before .args .t) 0 Accepted
+    ≡ rowTests (scale (start-before-is-accepted c .args .ruler)) (trips (start-before-is-accepted c)) (start-before-is-accepted c .args .t) 0 Accepted
 row-is c =
-    let g = c .before .before .before .before .before .before .before .before .before .before in
+    let g = start-before-is-accepted c in
     let w = in-index g in
     let read = ap (λ (k : ℕ). rows (take (entryWords * k - 0) (words g .originals))) (counted (c .before .before .before .before) .0) ∙ w .listed in
     c .before .trip-outcome .ensures ∙ ap (λ (l : List Trip). rowTests (scale (g .args .ruler)) l (g .args .t) 0 Accepted) read
 
 -- past the second: the trip passes them
-row-ok : (c : tie.Else2) → RowOk (scale (c .before .before .before .before .before .before .before .before .before .before .before .args .ruler))
-    (trips (c .before .before .before .before .before .before .before .before .before .before .before))
-    (c .before .before .before .before .before .before .before .before .before .before .before .args .t)
+row-ok : (c : tie.Else2) → RowOk (scale (start-before-is-accepted (c .before) .args .ruler))
+    (trips (start-before-is-accepted (c .before))) (start-before-is-accepted (c .before) .args .t)
 row-ok c = row-taken _ _ _ _ (row-is (c .before)) (sym (c .before .is-accepted .ensures) ∙ not-false _ (c .if2 .left))
 
 bottom-requires : tie.Need-bottom-requires
@@ -87,7 +93,7 @@ refused-requires c κs = search needs
 returns : tie.Need-returns
 unfolding refuse
 returns c =
-    let g = c .before .before .before .before .before .before .before .before in
+    let g = start-before-entries-of (c .before .before) in
     let w = in-index g in
     let full : leb mostTrips (length (trips g)) ≡ true = le-leb mostTrips (length (trips g))
     (omega (arith, counted (c .before .before) .0, c .before .if1 .taken)) in
@@ -103,7 +109,7 @@ part-trip-outcome-start : tie.Need-part-trip-outcome-start
 part-trip-outcome-start c = search needs
 
 part-trip-outcome-end : tie.Need-part-trip-outcome-end
-part-trip-outcome-end c = omega (arith, in-index (c .before .before .before .before .before .before .before), counted (c .before) .0)
+part-trip-outcome-end c = omega (arith, in-index (start-before-entries-of (c .before)), counted (c .before) .0)
 
 trip-outcome-requires : tie.Need-trip-outcome-requires
 trip-outcome-requires c κs = search needs
@@ -114,7 +120,7 @@ is-accepted-requires c κs = search needs
 returns-2 : tie.Need-returns-2
 unfolding refuse
 returns-2 c =
-    let g = c .before .before .before .before .before .before .before .before .before .before .before in
+    let g = start-before-is-accepted (c .before) in
     let is = row-is (c .before) in
     let not-taken = sym (ap isAccepted is) ∙ sym (c .before .is-accepted .ensures) ∙ not-true _ (c .if2 .taken) in
     is ∙ sym (add-row (scale (g .args .ruler)) (words g) (g .args .t) (g .pre .1) (in-index g) (few (c .before .before .before .before)) not-taken)
@@ -122,7 +128,7 @@ returns-2 c =
 lacks-room-requires : tie.Need-lacks-room-requires
 unfolding refuse
 lacks-room-requires c κs =
-    let g = c .before .before .before .before .before .before .before .before .before .before .before in
+    let g = start-before-is-accepted (c .before) in
     let cells = cells-in (g .args .ruler) (g .pre .0) (g .args .t) (row-ok (c) .fits) in
     (g .pre .0, (cells .0, cells .1, omega (arith, in-index g, counted (c .before .before .before .before .before) .0)))
 
@@ -132,20 +138,19 @@ refused-requires-2 c κs = search needs
 returns-3 : tie.Need-returns-3
 unfolding refuse
 returns-3 c =
-    let g = c .before .before .before .before .before .before .before .before .before .before .before .before .before .before in
+    let g = start-before-is-accepted (c .before .before .before .before) in
     let row = row-ok (c .before .before .before) in
     let cells = cells-in (g .args .ruler) (g .pre .0) (g .args .t) (row .fits) in
     c .refused2 .ensures ∙ sym (add-room (scale (g .args .ruler)) (words g) (g .args .t) (g .pre .1) (in-index g)
-    (few (c .before .before .before .before .before .before .before)) row (cells .1)
-    (counted (c .before .before .before .before .before .before .before .before)) true _
+    (few (else1-before-lacks-room (c .before .before))) row (cells .1) (counted (else1-before-lacks-room (c .before .before) .before)) true _
     (sym (c .before .before .lacks-room .ensures) ∙ c .before .if3 .taken) refl)
 
 lacks-room-requires-2 : tie.Need-lacks-room-requires-2
 unfolding refuse
 lacks-room-requires-2 c κs =
-    let g = c .before .before .before .before .before .before .before .before .before .before .before .before .before in
+    let g = start-before-is-accepted (c .before .before .before) in
     let cells = cells-in (g .args .ruler) (g .pre .0) (g .args .t) (row-ok (c .before .before) .fits) in
-    (g .pre .0, (cells .0, cells .1, omega (arith, in-index g, counted (c .before .before .before .before .before .before .before) .1)))
+    (g .pre .0, (cells .0, cells .1, omega (arith, in-index g, counted (else1-before-lacks-room (c .before) .before) .1)))
 
 refused-requires-3 : tie.Need-refused-requires-3
 refused-requires-3 c κs = search needs
@@ -153,24 +158,24 @@ refused-requires-3 c κs = search needs
 returns-4 : tie.Need-returns-4
 unfolding refuse
 returns-4 c =
-    let g = c .before .before .before .before .before .before .before .before .before .before .before .before .before .before .before .before in
+    let g = start-before-is-accepted (c .before .before .before .before .before .before) in
     let row = row-ok (c .before .before .before .before .before) in
     let cells = cells-in (g .args .ruler) (g .pre .0) (g .args .t) (row .fits) in
     c .refused3 .ensures ∙ sym (add-room (scale (g .args .ruler)) (words g) (g .args .t) (g .pre .1) (in-index g)
-    (few (c .before .before .before .before .before .before .before .before .before)) row (cells .1)
-    (counted (c .before .before .before .before .before .before .before .before .before .before)) false true
+    (few (else1-before-lacks-room (c .before .before .before .before))) row (cells .1)
+    (counted (else1-before-lacks-room (c .before .before .before .before) .before)) false true
     (sym (c .before .before .before .before .lacks-room .ensures) ∙ c .before .before .before .if3 .left)
     (sym (c .before .before .lacks-room2 .ensures) ∙ c .before .if4 .taken))
 
 returns-5 : tie.Need-returns-5
 unfolding refuse
 returns-5 c =
-    let g = c .before .before .before .before .before .before .before .before .before .before .before .before .before .before .before in
+    let g = start-before-is-accepted (c .before .before .before .before .before) in
     let row = row-ok (c .before .before .before .before) in
     let cells = cells-in (g .args .ruler) (g .pre .0) (g .args .t) (row .fits) in
     sym (add-room (scale (g .args .ruler)) (words g) (g .args .t) (g .pre .1) (in-index g)
-    (few (c .before .before .before .before .before .before .before .before)) row (cells .1)
-    (counted (c .before .before .before .before .before .before .before .before .before)) false false
+    (few (else1-before-lacks-room (c .before .before .before))) row (cells .1)
+    (counted (else1-before-lacks-room (c .before .before .before) .before)) false false
     (sym (c .before .before .before .lacks-room .ensures) ∙ c .before .before .if3 .left) (sym (c .before .lacks-room2 .ensures) ∙ c .if4 .left))
 
 pub add-outcome-spec : {M : Type 1} → statement M

@@ -16,6 +16,13 @@ use borrow.Author.Needs.{needs}
 use Rattle.edit.proofs.tests.trip_outcome.Statement.{statement}
 use Rattle.edit.proofs.tests.trip_outcome.Tie as tie
 
+-- the places that facts are taken from
+abbrev start-before-else1 : tie.Else1 → tie.Start
+start-before-else1 c = c .before .before .before .before .before .before
+
+abbrev time-outcome-before-then3 : tie.Then3 → tie.After-time-outcome
+time-outcome-before-then3 c = c .before .before .before .before .before .before
+
 time-outcome-requires : tie.Need-time-outcome-requires
 time-outcome-requires c κs = search needs
 
@@ -40,7 +47,7 @@ refused-requires c κs = search needs
 returns-2 : tie.Need-returns-2
 unfolding refuse
 returns-2 c =
-    let g = c .before .before .before .before .before .before .before .before .before in
+    let g = start-before-else1 (c .before .before .before) in
     let t = g .args .t in
     let s = scale (g .args .ruler) in
     let ts = rows (g .args .there .now) in
@@ -56,7 +63,7 @@ cast-if3 c = search needs
 
 partitions-of-trip-requires : tie.Need-partitions-of-trip-requires
 partitions-of-trip-requires c κs =
-    let g = c .before .before .before .before .before .before .before .before in
+    let g = start-before-else1 (c .before .before) in
     let t = g .args .t in
     let s = scale (g .args .ruler) in
     let ts = rows (g .args .there .now) in
@@ -70,11 +77,11 @@ refused-requires-2 c κs = search needs
 returns-3 : tie.Need-returns-3
 unfolding refuse inTooMany
 returns-3 c =
-    let g = c .before .before .before .before .before .before .before .before .before .before .before in
+    let g = start-before-else1 (c .before .before .before .before .before) in
     let t = g .args .t in
     let s = scale (g .args .ruler) in
     let ts = rows (g .args .there .now) in
-    let times = c .before .before .before .before .before .before .before .time-outcome .ensures in
+    let times = time-outcome-before-then3 (c .before) .time-outcome .ensures in
     let fine = sym (c .before .before .before .before .before .before .is-accepted .ensures)
     ∙ not-false _ (c .before .before .before .before .before .if1 .left) in
     let known : hasId (t .id) ts ≡ false =
@@ -87,7 +94,7 @@ returns-3 c =
 returns-4 : tie.Need-returns-4
 unfolding refuse inTooMany
 returns-4 c =
-    let g = c .before .before .before .before .before .before .before .before .before .before in
+    let g = start-before-else1 (c .before .before .before .before) in
     let t = g .args .t in
     let s = scale (g .args .ruler) in
     let ts = rows (g .args .there .now) in

@@ -8,6 +8,13 @@ use borrow.Author.Needs.{needs}
 use Rattle.plan.proofs.stretches.stretches_at.Statement.{statement}
 use Rattle.plan.proofs.stretches.stretches_at.Tie as tie
 
+-- the places that facts are taken from
+abbrev start-before-sure-last : tie.After-sure-last → tie.Start
+start-before-sure-last c = c .before .before .before .before .before .before
+
+abbrev slot-at2-before-new : tie.After-new → tie.After-slot-at2
+slot-at2-before-new c = c .before .before .before .before .before .before
+
 slot-at-requires : tie.Need-slot-at-requires
 slot-at-requires c κs = search needs
 
@@ -31,14 +38,14 @@ half-length-requires c κs = search needs
 
 add-new : tie.Need-add-new
 add-new c =
-    let s = c .before .before .before .before .before .before .before .before in
+    let s = start-before-sure-last (c .before .before) in
     let i = slots-in (s .args .plan) (s .pre .0) (s .args .level) (s .pre .1) in
     let h = half-small (c .before .level .result) (omega (arith, s .pre .0 .deep)) in
     omega (arith, half-small deepest (omega arith), c .before .before .before .before .before .slot-at .ensures, c .half-length .ensures)
 
 add-new-2 : tie.Need-add-new-2
 add-new-2 c =
-    let s = c .before .before .before .before .before .before .before .before in
+    let s = start-before-sure-last (c .before .before) in
     let i = slots-in (s .args .plan) (s .pre .0) (s .args .level) (s .pre .1) in
     let h = half-small (c .before .level .result) (omega (arith, s .pre .0 .deep)) in
     omega (
@@ -54,7 +61,7 @@ replica-slots-requires c κs = search needs
 
 add-new-3 : tie.Need-add-new-3
 add-new-3 c =
-    let s = c .before .before .before .before .before .before .before .before .before in
+    let s = start-before-sure-last (c .before .before .before) in
     let i = slots-in (s .args .plan) (s .pre .0) (s .args .level) (s .pre .1) in
     let h = half-small (c .before .before .level .result) (omega (arith, s .pre .0 .deep)) in
     let k = few-slots (s .args .plan .kind) in
@@ -75,27 +82,27 @@ original-slots-requires c κs = search needs
 
 arranged-requires : tie.Need-arranged-requires
 arranged-requires c κs =
-    let s = c .before .before .before .before .before .before .before .before .before .before .before in
+    let s = start-before-sure-last (c .before .before .before .before .before) in
     let i = slots-in (s .args .plan) (s .pre .0) (s .args .level) (s .pre .1) in
     let k = few-slots (s .args .plan .kind) in (
-      omega (arith, c .before .before .before .before .before .before .before .before .slot-at .ensures),
-      omega (arith, c .before .before .before .before .before .before .before .slot-at2 .ensures),
+      omega (arith, slot-at2-before-new (c .before) .before .slot-at .ensures),
+      omega (arith, slot-at2-before-new (c .before) .slot-at2 .ensures),
       omega (arith, c .original-slots .ensures),
     )
 
 returns : tie.Need-returns
 unfolding stretchesAt
-returns c = rw (
+returns c = let at-sure-last = c .before .before .before .before .before .before in rw (
   c .arranged .ensures,
   c .before .original-slots .ensures,
   c .before .before .new .ensures,
   c .before .before .before .replica-slots .ensures,
   c .before .before .before .before .half-length .ensures,
   c .before .before .before .before .before .level .ensures,
-  c .before .before .before .before .before .before .sure-last .ensures,
-  c .before .before .before .before .before .before .before .sure-first .ensures,
-  c .before .before .before .before .before .before .before .before .slot-at2 .ensures,
-  c .before .before .before .before .before .before .before .before .before .slot-at .ensures,
+  at-sure-last .sure-last .ensures,
+  at-sure-last .before .sure-first .ensures,
+  at-sure-last .before .before .slot-at2 .ensures,
+  at-sure-last .before .before .before .slot-at .ensures,
 )
 
 pub stretches-at-spec : {M : Type 1} → statement M

@@ -18,6 +18,10 @@ Inv-loop arena₀ used at end i₀ arena i =
 abbrev μ-loop : tie.MeasureT-loop
 μ-loop arena₀ used at end i₀ arena i = entryWords * used - i
 
+-- the places that facts are taken from
+abbrev start-before-clear : tie.After-clear Inv-loop μ-loop → tie.Start Inv-loop μ-loop
+start-before-clear c = c .before .before .before .before .before
+
 mul-end : tie.Need-mul-end Inv-loop μ-loop
 mul-end c = omega arith
 
@@ -79,13 +83,13 @@ clear-requires c κs = omega arith
 same-length : tie.Need-same-length Inv-loop μ-loop
 same-length c =
     let at = c .before .before .before .before .before .loop in
-    let used = entryWords * c .before .before .before .before .before .before .before .args .used in
+    let used = entryWords * start-before-clear (c .before .before) .args .used in
     same-len-mid (at .i) (used - at .i) (at .arena) (c .before .before .clear .last .0) (c .before .before .clear .kept .0) ∙ at .inv .2
 
 returns : tie.Need-returns Inv-loop μ-loop
 returns c =
     let at = c .before .before .before .before .before .loop in
-    let used = entryWords * c .before .before .before .before .before .before .before .args .used in
+    let used = entryWords * start-before-clear (c .before .before) .args .used in
     closed-end (at .i) used (at .arena) (c .before .before .clear .last .0) (omega arith) (omega arith) (c .before .before .clear .ensures)
     ∙ at .inv .3
 

@@ -5,6 +5,13 @@ use borrow.Author.Needs.{needs}
 use Rattle.store.proofs.ids.differ_in.Statement.{statement}
 use Rattle.store.proofs.ids.differ_in.Tie as tie
 
+-- the places that facts are taken from
+abbrev copy-ids-before-sort-ids : tie.After-sort-ids → tie.After-copy-ids
+copy-ids-before-sort-ids c = c .before .before .before .before
+
+abbrev start-before-climb : tie.After-climb → tie.Start
+start-before-climb c = copy-ids-before-sort-ids (c .before .before .before .before .before) .before .before .before .before
+
 copy-ids-requires : tie.Need-copy-ids-requires
 copy-ids-requires c κs = search needs
 
@@ -37,8 +44,8 @@ same-length c = search needs
 
 returns : tie.Need-returns
 returns c =
-    let copy = c .before .before .before .before .before .before .before .before .before .copy-ids in
-    let part = c .before .before .before .before .before .before .before .before .before .before .before .before .before .args .part .now in
+    let copy = copy-ids-before-sort-ids (c .before .before .before .before .before) .copy-ids in
+    let part = start-before-climb c .args .part .now in
     let sorted = c .before .before .before .before .before .sort-ids .ensures in
     c .climb .ensures ∙ copied (copy .result) part _ _ _ _ (copy .ensures .0) (copy .ensures .1) sorted
 

@@ -15,6 +15,10 @@ Inv-loop half spots₀ n₀ lo₀ hi₀ first₀ last₀ spots n lo hi first las
 abbrev μ-loop : tie.MeasureT-loop
 μ-loop half spots₀ n₀ lo₀ hi₀ first₀ last₀ spots n lo hi first last = lo .0
 
+-- the places that facts are taken from
+abbrev no-later-before-level : tie.After-level Inv-loop μ-loop → tie.After-no-later Inv-loop μ-loop
+no-later-before-level c = c .before .before .before .before .before .before
+
 next-requires : tie.Need-next-requires Inv-loop μ-loop
 next-requires c κs = let p = c .before .pre in rw (p .1) (p .0, omega arith)
 
@@ -71,17 +75,17 @@ above-requires c κs = rw (c .next2 .ensures) (omega (arith, c .before .before .
 above-requires-2 : tie.Need-above-requires-2 Inv-loop μ-loop
 above-requires-2 c κs =
     let i = c .before .before .before in
-    omega (arith, i .level .ensures, i .before .before .before .before .before .before .before .loop .inv .high-level)
+    omega (arith, i .level .ensures, no-later-before-level i .before .loop .inv .high-level)
 
 above-requires-3 : tie.Need-above-requires-3 Inv-loop μ-loop
 above-requires-3 c κs =
     let i = c .before .before .before .before in
-    omega (arith, i .level .ensures, i .before .before .before .before .before .before .before .loop .inv .first-level)
+    omega (arith, i .level .ensures, no-later-before-level i .before .loop .inv .first-level)
 
 above-requires-4 : tie.Need-above-requires-4 Inv-loop μ-loop
 above-requires-4 c κs =
     let i = c .before .before .before .before .before in
-    omega (arith, i .level .ensures, i .before .before .before .before .before .before .before .loop .inv .last-level)
+    omega (arith, i .level .ensures, no-later-before-level i .before .loop .inv .last-level)
 
 loop-less : tie.Need-loop-less Inv-loop μ-loop
 loop-less c =

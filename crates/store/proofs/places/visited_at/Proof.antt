@@ -37,10 +37,11 @@ same-length c = search needs
 returns : tie.Need-returns
 unfolding visitsAt
 returns c =
-    let k = c .before .before .before .before .before .before .before .before in
+    let at-parity2 = c .before .before .before .before in
+    let k = at-parity2 .before .before .before .before in
     let u = c .before .before in
     let e = rw (k .before .parity .ensures) at (k .visited .ensures) in
-    let f = rw (u .before .first-of-two .ensures, u .before .before .parity2 .ensures) at (u .visited2 .ensures) in
+    let f = rw (u .before .first-of-two .ensures, at-parity2 .parity2 .ensures) at (u .visited2 .ensures) in
     wrote-both e f
 
 pub visited-at-spec : {M : Type 1} → statement M

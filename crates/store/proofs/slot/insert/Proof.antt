@@ -6,6 +6,16 @@ use borrow.Author.Needs.{needs}
 use Rattle.store.proofs.slot.insert.Statement.{statement}
 use Rattle.store.proofs.slot.insert.Tie as tie
 
+-- the places that facts are taken from
+abbrev start-before-open-gap : tie.After-open-gap → tie.Start
+start-before-open-gap c = c .before .before .before .before .before .before
+
+abbrev open-gap-before-put-trip : tie.After-put-trip → tie.After-open-gap
+open-gap-before-put-trip c = c .before .before .before .before
+
+abbrev start-before-one-more-from-call : tie.After-one-more-from-arg → tie.Start
+start-before-one-more-from-call c = start-before-open-gap (open-gap-before-put-trip (c .before .before .before))
+
 -- what the requires says of the words
 in-words : (s : tie.Start) → RoomWords (s .args .dir .now) (s .args .arena .now) (s .args .slot) (s .args .pos)
 in-words s = room-words (s .args .dir .now) (s .args .arena .now) (s .pre .0) (s .args .slot) (s .args .pos) (s .pre .1)
@@ -42,11 +52,11 @@ open-gap-requires c κs = omega (arith, in-words (c .before .before .before .bef
 
 put-trip-requires : tie.Need-put-trip-requires
 put-trip-requires c κs =
-    omega (arith, in-words (c .before .before .before .before .before .before .before .before .before), c .before .before .before .open-gap .kept .0)
+    omega (arith, in-words (start-before-open-gap (c .before .before .before)), c .before .before .before .open-gap .kept .0)
 
 one-more-from-requires : tie.Need-one-more-from-requires
 one-more-from-requires c κs =
-    λ k h. in-words (c .before .before .before .before .before .before .before .before .before .before .before .before .before) .few k
+    λ k h. in-words (start-before-one-more-from-call c) .few k
 
 same-length : tie.Need-same-length
 same-length c = search needs
@@ -56,9 +66,9 @@ same-length-2 c = search needs
 
 returns : tie.Need-returns
 returns c = λ ls r.
-    let a = c .before .before .before .before .before .before .before .before .before .before .before .before .before .before .before .before .args in
+    let a = start-before-one-more-from-call (c .before .before .before) .args in
     let after-put = c .before .before .before .before .before .before in
-    let after-gap = c .before .before .before .before .before .before .before .before .before .before in
+    let after-gap = open-gap-before-put-trip (c .before .before .before .before .before .before) in
     rw (c .before .before .one-more-from .ensures, after-put .put-trip .ensures, after-gap .open-gap .ensures)
     (room-inserted (a .dir .now) (a .arena .now) ls (a .slot) (a .pos) _ _ (a .t) r refl refl)
 

@@ -6,6 +6,10 @@ use borrow.Author.Needs.{needs}
 use Rattle.store.proofs.slot.remove.Statement.{statement}
 use Rattle.store.proofs.slot.remove.Tie as tie
 
+-- the places that facts are taken from
+abbrev start-before-close-gap : tie.After-close-gap → tie.Start
+start-before-close-gap c = c .before .before .before .before .before .before
+
 -- what the requires says of the words
 in-words : (s : tie.Start) → ThereWords (s .args .dir .now) (s .args .arena .now) (s .args .slot) (s .args .pos)
 in-words s = there-words (s .args .dir .now) (s .args .arena .now) (s .pre .0) (s .args .slot) (s .args .pos) (s .pre .1)
@@ -41,7 +45,7 @@ close-gap-requires : tie.Need-close-gap-requires
 close-gap-requires c κs = omega (arith, in-words (c .before .before .before .before .before))
 
 one-less-from-requires : tie.Need-one-less-from-requires
-one-less-from-requires c κs = in-words (c .before .before .before .before .before .before .before .before .before) .more
+one-less-from-requires c κs = in-words (start-before-close-gap (c .before .before .before)) .more
 
 same-length : tie.Need-same-length
 same-length c = search needs
@@ -51,7 +55,7 @@ same-length-2 c = search needs
 
 returns : tie.Need-returns
 returns c = λ ls r.
-    let a = c .before .before .before .before .before .before .before .before .before .before .before .before .args in
+    let a = start-before-close-gap (c .before .before .before .before .before .before) .args in
     rw (c .before .before .one-less-from .ensures, c .before .before .before .before .before .before .close-gap .ensures)
     (there-removed (a .dir .now) (a .arena .now) ls (a .slot) (a .pos) _ _ r refl refl)
 

@@ -28,6 +28,10 @@ Inv-loop ruler n part rows₀ k₀ sum₀ k sum =
 abbrev μ-loop : tie.MeasureT-loop
 μ-loop ruler n part rows₀ k₀ sum₀ k sum = rows₀ - k
 
+-- the places that facts are taken from
+abbrev start-before-else1 : tie.Else1 Inv-loop μ-loop → tie.Start Inv-loop μ-loop
+start-before-else1 c = c .before .before .before .before .before .before
+
 loop-holds : tie.Need-loop-holds Inv-loop μ-loop
 loop-holds c = (omega arith, omega arith, refl, omega arith)
 
@@ -51,7 +55,7 @@ returns c =
 
 partitions-holding-requires : tie.Need-partitions-holding-requires Inv-loop μ-loop
 partitions-holding-requires c κs =
-    let good = c .before .before .before .before .before .before .pre .0 in
+    let good = start-before-else1 c .pre .0 in
     (good, trip-fits _ (c .before .before .trip-at .result) good (sym (c .before .fits2 .ensures) ∙ not-false _ (c .if1 .left)))
 
 cast-sum : tie.Need-cast-sum Inv-loop μ-loop
@@ -59,7 +63,7 @@ cast-sum c = omega arith
 
 add-sum : tie.Need-add-sum Inv-loop μ-loop
 add-sum c =
-    let g = c .before .before .before .before .before .before .before in
+    let g = start-before-else1 (c .before) in
     let few = never-eleven (scale (g .args .ruler)) (c .before .before .before .trip-at .result) (deep-ruler (g .args .ruler) (g .pre .0)) in
     omega (arith, c .partitions-holding .ensures, g .pre .1)
 
@@ -71,7 +75,7 @@ loop-less c = omega arith
 
 loop-again : tie.Need-loop-again Inv-loop μ-loop
 loop-again c =
-    let g = c .before .before .before .before .before .before .before in
+    let g = start-before-else1 (c .before) in
     let s = scale (g .args .ruler) in
     let part = g .args .part .now in
     let k = c .before .before .before .before .before .loop in

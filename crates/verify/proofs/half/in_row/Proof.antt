@@ -21,6 +21,10 @@ Inv-loop ruler d partition part n last₀ k₀ last k =
 abbrev μ-loop : tie.MeasureT-loop
 μ-loop ruler d partition part n last₀ k₀ last k = n - k
 
+-- the places that facts are taken from
+abbrev start-before-loop : tie.At-loop Inv-loop μ-loop → tie.Start Inv-loop μ-loop
+start-before-loop c = c .before .before .before .before .before .before
+
 returns : tie.Need-returns Inv-loop μ-loop
 returns c =
     let g = c .before .before .args in
@@ -53,14 +57,14 @@ trip-at-requires-2 : tie.Need-trip-at-requires-2 Inv-loop μ-loop
 trip-at-requires-2 c κs = omega arith
 
 stands-requires-2 : tie.Need-stands-requires-2 Inv-loop μ-loop
-stands-requires-2 c κs = c .before .before .before .before .before .before .before .before .pre
+stands-requires-2 c κs = start-before-loop (c .before .before) .pre
 
 precedes-requires : tie.Need-precedes-requires Inv-loop μ-loop
 precedes-requires c κs = tt
 
 returns-3 : tie.Need-returns-3 Inv-loop μ-loop
 returns-3 c =
-    let g = c .before .before .before .before .before .before .before .before .before .before .before .args in
+    let g = start-before-loop (c .before .before .before .before .before) .args in
     let p = standsAt (scale (g .ruler)) (g .d) (g .partition .0) (g .partition .1) in
     let k = c .before .before .before .before .before .loop in
     let t = tripAt (g .part .now) (k .k) in
@@ -72,7 +76,7 @@ returns-3 c =
 
 add-k : tie.Need-add-k Inv-loop μ-loop
 add-k c =
-    let g = c .before .before .before .before .before .before .before .before .before .before .before in
+    let g = start-before-loop (c .before .before .before .before .before) in
     omega (arith, c .before .before .before .before .loop-test .taken, g .good)
 
 loop-less : tie.Need-loop-less Inv-loop μ-loop
@@ -80,7 +84,7 @@ loop-less c = omega arith
 
 loop-again : tie.Need-loop-again Inv-loop μ-loop
 loop-again c =
-    let g = c .before .before .before .before .before .before .before .before .before .before .before .args in
+    let g = start-before-loop (c .before .before .before .before .before) .args in
     let p = standsAt (scale (g .ruler)) (g .d) (g .partition .0) (g .partition .1) in
     let k = c .before .before .before .before .before .loop in
     let t = tripAt (g .part .now) (k .k) in
@@ -92,7 +96,7 @@ loop-again c =
 
 returns-4 : tie.Need-returns-4 Inv-loop μ-loop
 returns-4 c =
-    let g = c .before .before .before .before .before .before .before .args in
+    let g = start-before-loop (c .before) .args in
     let p = standsAt (scale (g .ruler)) (g .d) (g .partition .0) (g .partition .1) in
     let k = c .before .loop in
     sym (row-end (g .part .now) p (order (g .d)) (k .last) (k .k) (omega arith)) ∙ k .inv

@@ -21,6 +21,10 @@ Inv-loop ruler dir originals part n k₀ k =
 abbrev μ-loop : tie.MeasureT-loop
 μ-loop ruler dir originals part n k₀ k = n - k
 
+-- the places that facts are taken from
+abbrev start-before-trip-at : tie.After-trip-at Inv-loop μ-loop → tie.Start Inv-loop μ-loop
+start-before-trip-at c = c .before .before .before .before .before .before
+
 loop-holds : tie.Need-loop-holds Inv-loop μ-loop
 loop-holds c = refl
 
@@ -28,11 +32,11 @@ trip-at-requires : tie.Need-trip-at-requires Inv-loop μ-loop
 trip-at-requires c κs = omega arith
 
 is-known-requires : tie.Need-is-known-requires Inv-loop μ-loop
-is-known-requires c κs = c .before .before .before .before .before .before .pre
+is-known-requires c κs = start-before-trip-at c .pre
 
 returns : tie.Need-returns Inv-loop μ-loop
 returns c =
-    let g = c .before .before .before .before .before .before .before .before .args in
+    let g = start-before-trip-at (c .before .before) .args in
     let p = isKnown (scale (g .ruler)) (g .dir .now) (g .originals .now) in
     let k = c .before .before .before .before .loop in
     let fails : p (tripAt (g .part .now) (k .k)) ≡ false =
@@ -48,7 +52,7 @@ loop-less c = omega arith
 
 loop-again : tie.Need-loop-again Inv-loop μ-loop
 loop-again c =
-    let g = c .before .before .before .before .before .before .before .before .args in
+    let g = start-before-trip-at (c .before .before) .args in
     let p = isKnown (scale (g .ruler)) (g .dir .now) (g .originals .now) in
     let k = c .before .before .before .before .loop in
     let passes : p (tripAt (g .part .now) (k .k)) ≡ true =

@@ -19,6 +19,10 @@ Inv-loop bounds level directory originals replicas to count₀ k₀ count k = (k
 abbrev μ-loop : tie.MeasureT-loop
 μ-loop bounds level directory originals replicas to count₀ k₀ count k = to - k
 
+-- the places that facts are taken from
+abbrev start-before-loop : tie.At-loop Inv-loop μ-loop → tie.Start Inv-loop μ-loop
+start-before-loop c = c .before .before .before .before .before .before
+
 looks-to-requires : tie.Need-looks-to-requires Inv-loop μ-loop
 looks-to-requires c κs = replicas-in (c .before .before .before .pre .0)
 
@@ -40,7 +44,7 @@ look-at-requires c κs = search needs
 
 part-of-requires : tie.Need-part-of-requires Inv-loop μ-loop
 part-of-requires c κs =
-    let w = c .before .before .before .before .before .before .before .before .pre .0 in
+    let w = start-before-loop (c .before .before) .pre .0 in
     rw (c .look-at .ensures) (next-there w (c .before .loop-test .taken) (c .before .before .loop .inv .1))
 
 count-part-requires : tie.Need-count-part-requires Inv-loop μ-loop
@@ -48,7 +52,7 @@ count-part-requires c κs = search needs
 
 add-count : tie.Need-add-count Inv-loop μ-loop
 add-count c =
-    let s = c .before .before .before .before .before .before .before .before .before .before .before in
+    let s = start-before-loop (c .before .before .before .before .before) in
     let g = s .args in
     let q = c .before .before .before .before .before .loop in
     let t = inside (g .bounds) in
@@ -67,7 +71,7 @@ loop-less c = omega arith
 
 loop-again : tie.Need-loop-again Inv-loop μ-loop
 loop-again c =
-    let s = c .before .before .before .before .before .before .before .before .before .before .before in
+    let s = start-before-loop (c .before .before .before .before .before) in
     let g = s .args in
     let q = c .before .before .before .before .before .loop in
     let t = inside (g .bounds) in
@@ -81,7 +85,7 @@ loop-again c =
 returns : tie.Need-returns Inv-loop μ-loop
 returns c =
     let q = c .before .loop in
-    let s = c .before .before .before .before .before .before .before in
+    let s = start-before-loop (c .before) in
     let g = s .args in
     let f = levelLook (inside (g .bounds)) (g .directory .now) (g .originals .now) (g .replicas .now) (g .level) in
     let e : q .k ≡ looksTo (g .level) (g .directory .now) = omega (arith, q .inv .1) in

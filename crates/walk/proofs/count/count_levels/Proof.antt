@@ -19,6 +19,10 @@ Inv-loop bounds plan directory originals replicas m count₀ up₀ count up = (u
 abbrev μ-loop : tie.MeasureT-loop
 μ-loop bounds plan directory originals replicas m count₀ up₀ count up = m + 1 - up
 
+-- the places that facts are taken from
+abbrev start-before-loop : tie.At-loop Inv-loop μ-loop → tie.Start Inv-loop μ-loop
+start-before-loop c = c .before .before .before .before .before .before
+
 level-requires : tie.Need-level-requires Inv-loop μ-loop
 level-requires c κs = search needs
 
@@ -26,11 +30,11 @@ loop-holds : tie.Need-loop-holds Inv-loop μ-loop
 loop-holds c = (omega arith, c .level .ensures, sym (ap length (row-none _)))
 
 stretches-at-requires : tie.Need-stretches-at-requires Inv-loop μ-loop
-stretches-at-requires c κs = (c .before .before .before .before .before .before .before .pre .0 .ranged, omega arith)
+stretches-at-requires c κs = (start-before-loop (c .before) .pre .0 .ranged, omega arith)
 
 count-level-requires : tie.Need-count-level-requires Inv-loop μ-loop
 count-level-requires c κs =
-    let s = c .before .before .before .before .before .before .before .before in
+    let s = start-before-loop (c .before .before) in
     let g = s .args in
     let q = c .before .before .loop in
     let t = inside (g .bounds) in
@@ -45,7 +49,7 @@ count-level-requires c κs =
 
 add-count : tie.Need-add-count Inv-loop μ-loop
 add-count c =
-    let s = c .before .before .before .before .before .before .before .before .before in
+    let s = start-before-loop (c .before .before .before) in
     let g = s .args in
     let q = c .before .before .before .loop in
     let t = inside (g .bounds) in
@@ -67,7 +71,7 @@ loop-less c = omega arith
 
 loop-again : tie.Need-loop-again Inv-loop μ-loop
 loop-again c =
-    let s = c .before .before .before .before .before .before .before .before .before in
+    let s = start-before-loop (c .before .before .before) in
     let g = s .args in
     let q = c .before .before .before .loop in
     let t = inside (g .bounds) in
@@ -84,7 +88,7 @@ loop-again c =
 returns : tie.Need-returns Inv-loop μ-loop
 returns c =
     let q = c .before .loop in
-    let e : q .up ≡ c .before .before .before .before .before .before .before .args .plan .low .0 + 1 = omega arith in
+    let e : q .up ≡ start-before-loop (c .before) .args .plan .low .0 + 1 = omega arith in
     rw e at (q .inv .2)
 
 pub count-levels-spec : {M : Type 1} → statement M

@@ -17,6 +17,10 @@ Inv-loop ends limit part lo₀ hi₀ lo hi = Meeting ends limit part lo hi × (h
 abbrev μ-loop : tie.MeasureT-loop
 μ-loop ends limit part lo₀ hi₀ lo hi = hi - lo
 
+-- the places that facts are taken from
+abbrev start-before-before2 : tie.After-before2 Inv-loop μ-loop → tie.Start Inv-loop μ-loop
+start-before-before2 c = c .before .before .before .before .before .before
+
 loop-holds : tie.Need-loop-holds Inv-loop μ-loop
 loop-holds c = let g = c .before in (search-start (g .args .ends) (g .args .limit) (g .args .part .now) (g .pre), omega arith)
 
@@ -43,7 +47,7 @@ loop-less c = omega arith
 
 loop-again : tie.Need-loop-again Inv-loop μ-loop
 loop-again c =
-    let g = c .before .before .before .before .before .before .before in
+    let g = start-before-before2 (c .before) in
     let k = c .before .before .before .before .before .loop in
     let mid = k .lo + (k .hi - k .lo) / 2 in
     let passes : earlierThan (g .args .ends) (g .args .limit) (tripAt (g .args .part .now) mid) ≡ true =
@@ -58,7 +62,7 @@ loop-less-2 c = omega arith
 
 loop-again-2 : tie.Need-loop-again-2 Inv-loop μ-loop
 loop-again-2 c =
-    let g = c .before .before .before .before .before .before .before in
+    let g = start-before-before2 (c .before) in
     let k = c .before .before .before .before .before .loop in
     let mid = k .lo + (k .hi - k .lo) / 2 in
     let fails : earlierThan (g .args .ends) (g .args .limit) (tripAt (g .args .part .now) mid) ≡ false =

@@ -21,6 +21,16 @@ Inv-loop bounds level directory originals replicas out₀ to count₀ k₀ out c
 abbrev μ-loop : tie.MeasureT-loop
 μ-loop bounds level directory originals replicas out₀ to count₀ k₀ out count k = to - k
 
+-- the places that facts are taken from
+abbrev start-before-looks-from : tie.After-looks-from Inv-loop μ-loop → tie.Start Inv-loop μ-loop
+start-before-looks-from c = c .before .before .before .before .before .before
+
+abbrev start-before-stretch : tie.After-stretch Inv-loop μ-loop → tie.Start Inv-loop μ-loop
+start-before-stretch c = start-before-looks-from (c .before .before .before .before .before)
+
+abbrev turn-before-out : tie.After-out Inv-loop μ-loop → tie.In-loop Inv-loop μ-loop
+turn-before-out c = c .before .before .before .before .before .before
+
 looks-to-requires : tie.Need-looks-to-requires Inv-loop μ-loop
 looks-to-requires c κs = replicas-in (c .before .before .before .before .pre .0)
 
@@ -29,7 +39,7 @@ looks-from-requires c κs = originals-in (c .before .before .before .before .bef
 
 loop-holds : tie.Need-loop-holds Inv-loop μ-loop
 loop-holds c =
-    let s = c .before .before .before .before .before .before in
+    let s = start-before-looks-from c in
     let g = s .args in
     let from = c .looks-from .ensures in
     let to = c .before .looks-to .ensures in
@@ -41,40 +51,40 @@ look-at-requires c κs = search needs
 
 part-of-requires : tie.Need-part-of-requires Inv-loop μ-loop
 part-of-requires c κs =
-    let w = c .before .before .before .before .before .before .before .before .before .pre .0 in
+    let w = start-before-looks-from (c .before .before .before) .pre .0 in
     rw (c .look-at .ensures) (next-there w (c .before .loop-test .taken) (c .before .before .loop .inv .1))
 
 mul-list-part : tie.Need-mul-list-part Inv-loop μ-loop
 mul-list-part c =
-    let s = c .before .before .before .before .before .before .before .before .before .before .before in
+    let s = start-before-stretch c in
     let q = c .before .before .before .before .loop in
     let fits = look-fits (s .pre .0) _ (c .before .before .before .loop-test .taken) (q .inv .1) (q .inv .3) (s .pre .1) in
     omega arith
 
 sub-list-part : tie.Need-sub-list-part Inv-loop μ-loop
 sub-list-part c =
-    let s = c .before .before .before .before .before .before .before .before .before .before .before in
+    let s = start-before-stretch c in
     let q = c .before .before .before .before .loop in
     let fits = look-fits (s .pre .0) _ (c .before .before .before .loop-test .taken) (q .inv .1) (q .inv .3) (s .pre .1) in
     omega arith
 
 part-list-part-start : tie.Need-part-list-part-start Inv-loop μ-loop
 part-list-part-start c =
-    let s = c .before .before .before .before .before .before .before .before .before .before .before in
+    let s = start-before-stretch c in
     let q = c .before .before .before .before .loop in
     let fits = look-fits (s .pre .0) _ (c .before .before .before .loop-test .taken) (q .inv .1) (q .inv .3) (s .pre .1) in
     search needs
 
 part-list-part-end : tie.Need-part-list-part-end Inv-loop μ-loop
 part-list-part-end c =
-    let s = c .before .before .before .before .before .before .before .before .before .before .before in
+    let s = start-before-stretch c in
     let q = c .before .before .before .before .loop in
     let fits = look-fits (s .pre .0) _ (c .before .before .before .loop-test .taken) (q .inv .1) (q .inv .3) (s .pre .1) in
     search needs
 
 list-part-requires : tie.Need-list-part-requires Inv-loop μ-loop
 list-part-requires c κs =
-    let s = c .before .before .before .before .before .before .before .before .before .before .before .before in
+    let s = start-before-stretch (c .before) in
     let g = s .args in
     let q = c .before .before .before .before .before .loop in
     let t = inside (g .bounds) in
@@ -87,35 +97,35 @@ list-part-requires c κs =
 
 add-count : tie.Need-add-count Inv-loop μ-loop
 add-count c =
-    let s = c .before .before .before .before .before .before .before .before .before .before .before .before .before .before .before in
+    let s = start-before-stretch (c .before .before .before .before) in
     let g = s .args in
-    let q = c .before .before .before .before .before .before .before .before .loop in
+    let q = turn-before-out (c .before) .before .loop in
     let t = inside (g .bounds) in
     let d = g .directory .now in
     let o = g .originals .now in
     let r = g .replicas .now in
     let look = c .before .before .before .before .before .before .look-at .ensures in
     let seen = look-seen (g .bounds) d o r (g .level) (q .k) look (c .before .before .before .before .before .part-of .ensures) in
-    let taken = c .before .before .before .before .before .before .before .loop-test .taken in
+    let taken = turn-before-out (c .before) .loop-test .taken in
     let fits = look-fits (s .pre .0) t taken (q .inv .1) (q .inv .3) (s .pre .1) in
     omega (arith, ap length seen, c .before .before .list-part .ensures .counted)
 
 add-k : tie.Need-add-k Inv-loop μ-loop
-add-k c = omega (arith, c .before .before .before .before .before .before .before .loop-test .taken)
+add-k c = omega (arith, turn-before-out (c .before) .loop-test .taken)
 
 loop-less : tie.Need-loop-less Inv-loop μ-loop
-loop-less c = omega (arith, c .before .before .before .before .before .before .before .loop-test .taken)
+loop-less c = omega (arith, turn-before-out (c .before) .loop-test .taken)
 
 loop-again : tie.Need-loop-again Inv-loop μ-loop
 loop-again c =
-    let s = c .before .before .before .before .before .before .before .before .before .before .before .before .before .before .before in
+    let s = start-before-stretch (c .before .before .before .before) in
     let g = s .args in
-    let q = c .before .before .before .before .before .before .before .before .loop in
+    let q = turn-before-out (c .before) .before .loop in
     let t = inside (g .bounds) in
     let d = g .directory .now in
     let o = g .originals .now in
     let r = g .replicas .now in
-    let taken = c .before .before .before .before .before .before .before .loop-test .taken in
+    let taken = turn-before-out (c .before) .loop-test .taken in
     let look = c .before .before .before .before .before .before .look-at .ensures in
     let seen = look-seen (g .bounds) d o r (g .level) (q .k) look (c .before .before .before .before .before .part-of .ensures) in
     let room = look-room (s .pre .0) t taken (q .inv .1) (s .pre .1) in
@@ -129,7 +139,7 @@ same-length c = c .before .loop .inv .2
 returns : tie.Need-returns Inv-loop μ-loop
 returns c =
     let q = c .before .loop in
-    let s = c .before .before .before .before .before .before .before .before in
+    let s = start-before-looks-from (c .before .before) in
     let g = s .args in
     let e : q .k ≡ looksTo (g .level) (g .directory .now) = omega (arith, q .inv .1) in
     rw (e, none-after (inside (g .bounds)) (s .pre .0)) at (q .inv .3)

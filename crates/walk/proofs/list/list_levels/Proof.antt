@@ -21,6 +21,13 @@ Inv-loop bounds plan directory originals replicas answers₀ m count₀ up₀ an
 abbrev μ-loop : tie.MeasureT-loop
 μ-loop bounds plan directory originals replicas answers₀ m count₀ up₀ answers count up = m + 1 - up
 
+-- the places that facts are taken from
+abbrev start-before-level : tie.After-level Inv-loop μ-loop → tie.Start Inv-loop μ-loop
+start-before-level c = c .before .before .before .before .before .before
+
+abbrev start-before-stretches-at : tie.After-stretches-at Inv-loop μ-loop → tie.Start Inv-loop μ-loop
+start-before-stretches-at c = start-before-level (c .before .before .before)
+
 level-requires : tie.Need-level-requires Inv-loop μ-loop
 level-requires c κs = search needs
 
@@ -28,33 +35,29 @@ loop-holds : tie.Need-loop-holds Inv-loop μ-loop
 loop-holds c = (omega arith, c .level .ensures, refl, rw (row-none _) (listed-none _))
 
 stretches-at-requires : tie.Need-stretches-at-requires Inv-loop μ-loop
-stretches-at-requires c κs = (c .before .before .before .before .before .before .before .before .pre .0 .ranged, omega arith)
+stretches-at-requires c κs = (start-before-level (c .before .before) .pre .0 .ranged, omega arith)
 
 mul-list-level : tie.Need-mul-list-level Inv-loop μ-loop
 mul-list-level c =
-    let s = c .before .before .before .before .before .before .before .before .before in
+    let s = start-before-stretches-at c in
     let q = c .before .before .loop in
     let fits = row-fits _ _ (q .inv .3) (omega arith) (s .pre .1) in
     omega arith
 
 sub-list-level : tie.Need-sub-list-level Inv-loop μ-loop
-sub-list-level c = omega (
-  arith,
-  row-fits _ _ (c .before .before .loop .inv .3) (omega arith)
-      (c .before .before .before .before .before .before .before .before .before .pre .1),
-)
+sub-list-level c = omega (arith, row-fits _ _ (c .before .before .loop .inv .3) (omega arith) (start-before-stretches-at c .pre .1))
 
 part-list-level-start : tie.Need-part-list-level-start Inv-loop μ-loop
 part-list-level-start c = let fits = row-fits _ _ (c .before .before .loop .inv .3) (omega arith)
-    (c .before .before .before .before .before .before .before .before .before .pre .1) in search needs
+    (start-before-stretches-at c .pre .1) in search needs
 
 part-list-level-end : tie.Need-part-list-level-end Inv-loop μ-loop
 part-list-level-end c = let fits = row-fits _ _ (c .before .before .loop .inv .3) (omega arith)
-    (c .before .before .before .before .before .before .before .before .before .pre .1) in search needs
+    (start-before-stretches-at c .pre .1) in search needs
 
 list-level-requires : tie.Need-list-level-requires Inv-loop μ-loop
 list-level-requires c κs =
-    let s = c .before .before .before .before .before .before .before .before .before .before in
+    let s = start-before-stretches-at (c .before) in
     let g = s .args in
     let q = c .before .before .before .loop in
     let t = inside (g .bounds) in
@@ -69,7 +72,7 @@ list-level-requires c κs =
 
 add-count : tie.Need-add-count Inv-loop μ-loop
 add-count c =
-    let s = c .before .before .before .before .before .before .before .before .before .before .before .before .before in
+    let s = start-before-stretches-at (c .before .before .before .before) in
     let g = s .args in
     let q = c .before .before .before .before .before .before .loop in
     let t = inside (g .bounds) in
@@ -87,7 +90,7 @@ add-up : tie.Need-add-up Inv-loop μ-loop
 add-up c = omega (
   arith,
   c .before .before .before .before .before .before .loop .inv .1,
-  c .before .before .before .before .before .before .before .before .before .before .before .before .before .pre .0 .ranged .deep,
+  start-before-stretches-at (c .before .before .before .before) .pre .0 .ranged .deep,
 )
 
 loop-less : tie.Need-loop-less Inv-loop μ-loop
@@ -95,7 +98,7 @@ loop-less c = omega arith
 
 loop-again : tie.Need-loop-again Inv-loop μ-loop
 loop-again c =
-    let s = c .before .before .before .before .before .before .before .before .before .before .before .before .before in
+    let s = start-before-stretches-at (c .before .before .before .before) in
     let g = s .args in
     let q = c .before .before .before .before .before .before .loop in
     let t = inside (g .bounds) in
@@ -115,7 +118,7 @@ same-length c = c .before .loop .inv .2
 returns : tie.Need-returns Inv-loop μ-loop
 returns c =
     let q = c .before .loop in
-    let e : q .up ≡ c .before .before .before .before .before .before .before .before .args .plan .low .0 + 1 = omega arith in
+    let e : q .up ≡ start-before-level (c .before .before) .args .plan .low .0 + 1 = omega arith in
     rw e at (q .inv .3)
 
 pub list-levels-spec : {M : Type 1} → statement M

@@ -7,6 +7,10 @@ use Rattle.plan.specs.Plan.{keepUnless}
 use Rattle.walk.proofs.list.list_part.Statement.{statement}
 use Rattle.walk.proofs.list.list_part.Tie as tie
 
+-- the places that facts are taken from
+abbrev start-before-copy-ids : tie.After-copy-ids → tie.Start
+start-before-copy-ids c = c .before .before .before .before .before
+
 copy-ids-requires : tie.Need-copy-ids-requires
 unfolding keepUnless
 copy-ids-requires c κs = let s = c .before .before .before .before in
@@ -20,7 +24,7 @@ unfolding keepUnless
 returns c =
     let e = c .before .before .copy-ids .ensures in
     rw (c .before .before .before .before .if1 .taken) (record
-    { counted = e .0 ∙ sym (length-rows (c .before .before .before .before .before .before .before .args .part .now)); written = e .1 })
+    { counted = e .0 ∙ sym (length-rows (start-before-copy-ids (c .before .before) .args .part .now)); written = e .1 })
 
 list-tested-requires : tie.Need-list-tested-requires
 unfolding keepUnless

@@ -22,6 +22,10 @@ Inv-loop bounds part out₀ n count₀ i₀ out count i = (i ≤ n) × (length o
 abbrev μ-loop : tie.MeasureT-loop
 μ-loop bounds part out₀ n count₀ i₀ out count i = n - i
 
+-- the places that facts are taken from
+abbrev start-before-hold : tie.After-hold Inv-loop μ-loop → tie.Start Inv-loop μ-loop
+start-before-hold c = c .before .before .before .before .before .before
+
 loop-holds : tie.Need-loop-holds Inv-loop μ-loop
 loop-holds c = (omega arith, refl, rw (found-none _ _) (listed-none _))
 
@@ -33,7 +37,7 @@ hold-requires c κs = search needs
 
 mul-out : tie.Need-mul-out Inv-loop μ-loop
 mul-out c =
-    let g = c .before .before .before .before .before .before .before .args in
+    let g = start-before-hold (c .before) .args in
     let q = c .before .before .before .before .loop in
     let test = inside (g .bounds) in
     let l = g .part .now in
@@ -42,7 +46,7 @@ mul-out c =
 
 slice-write-out : tie.Need-slice-write-out Inv-loop μ-loop
 slice-write-out c =
-    let g = c .before .before .before .before .before .before .before .args in
+    let g = start-before-hold (c .before) .args in
     let q = c .before .before .before .before .loop in
     let test = inside (g .bounds) in
     let l = g .part .now in
@@ -51,7 +55,7 @@ slice-write-out c =
 
 add-count : tie.Need-add-count Inv-loop μ-loop
 add-count c =
-    let g = c .before .before .before .before .before .before .before .args in
+    let g = start-before-hold (c .before) .args in
     let q = c .before .before .before .before .loop in
     let test = inside (g .bounds) in
     let l = g .part .now in
@@ -66,7 +70,7 @@ loop-less c = omega arith
 
 loop-again : tie.Need-loop-again Inv-loop μ-loop
 loop-again c =
-    let g = c .before .before .before .before .before .before .before .args in
+    let g = start-before-hold (c .before) .args in
     let q = c .before .before .before .before .loop in
     let test = inside (g .bounds) in
     let l = g .part .now in

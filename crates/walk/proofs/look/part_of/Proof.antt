@@ -12,6 +12,10 @@ use borrow.Author.Needs.{needs}
 use Rattle.walk.proofs.look.part_of.Statement.{statement}
 use Rattle.walk.proofs.look.part_of.Tie as tie
 
+-- the places that facts are taken from
+abbrev start-before-part-there : tie.After-part-there → tie.Start
+start-before-part-there c = c .before .before .before .before .before .before
+
 arena-of-requires : tie.Need-arena-of-requires
 arena-of-requires c κs = search needs
 
@@ -35,18 +39,18 @@ cut-part b d o r l e = rw e refl
 
 returns : tie.Need-returns
 returns c =
-    let s = c .before .before .before .before .before .before .before in
+    let s = start-before-part-there (c .before) in
     seen s (c .before .before .arena-of .ensures) (c .before .part-there .ensures)
     ∙ sure-part (s .args .bounds) _ _ _ (s .args .look) (c .if1 .taken)
 
 cut-requires : tie.Need-cut-requires
 cut-requires c κs =
-    let s = c .before .before .before .before .before .before .before in
+    let s = start-before-part-there (c .before) in
     rw (seen s (c .before .before .arena-of .ensures) (c .before .part-there .ensures)) (s .pre .ordered (c .if1 .left))
 
 returns-2 : tie.Need-returns-2
 returns-2 c =
-    let s = c .before .before .before .before .before .before .before .before in
+    let s = start-before-part-there (c .before .before) in
     let a = s .args in
     c .cut .ensures
     ∙ ap (cutOf (a .look .order) (a .bounds)) (seen s (c .before .before .before .arena-of .ensures) (c .before .before .part-there .ensures))
