@@ -2,19 +2,18 @@
 -- Assumes nothing.
 use mathlib.Core.Path.{_≡_, refl, sym, ap, _∙_}
 use mathlib.Core.Bool.{Bool, true, false, _&&_}
-use mathlib.Core.List.{List, [], _∷_, _++_, append-assoc}
-use Prim.Native.Nat.{ℕ, suc, _+_, _-_, _*_, _≤_, _<_}
-use native.Mathlib.Nat.{zero-add}
+use mathlib.Core.List.{List, [], _∷_, _++_}
+use Prim.Native.Nat.{ℕ, _+_, _-_, _*_, _≤_, _<_}
 use native.Mathlib.Numerals.{add-one}
 use native.Mathlib.Omega.{arith}
 use borrow.Author.Tests.{eq-eqb, ne-eqb}
 use lib.Dec.{ltb}
-use lib.ListN.{length, take, drop, getD, set, replicate, length-append, length-take, length-drop, take-append-drop}
-use lib.Seq.{sets, sets-eq, length-sets, take-all, take-at, set-at, take-suc-set, length-take-le, drop-cons, drop-length, drop-drop, drop-append-le}
+use lib.ListN.{length, take, drop, getD, set, replicate, length-append, length-take}
+use lib.Seq.{sets, length-sets, take-all, take-at, take-suc-set, length-take-le, drop-cons, drop-length}
 use borrow.Rule.Slice.PartMut.{midOf, putMid}
 use Rattle.lists.specs.Lists.{padded}
-use Rattle.lists.proofs.Padded.{padded-length}
-use Rattle.lists.proofs.Lent.{head-lent}
+use Rattle.lists.proofs.Padded.{padded-length, padded-more}
+use Rattle.lists.proofs.Lent.{head-lent, part-stored}
 use Rattle.lists.proofs.Stores.{sets-append}
 use Rattle.layout.specs.Words.{Index}
 use Rattle.text.specs.Bytes.{newline}
@@ -28,14 +27,6 @@ use Rattle.feeding.specs.Feeding.{lineKept, Held, held, Feed, leaving, l
 use Rattle.dialogue.proofs.SessionTurns.{done-keeps}
 
 -- ---- What is kept of a line
-
--- words with zeros after them, and the first zero replaced
-padded-more : (n : ℕ) (l : List ℕ) (b : ℕ) → length l < n → set (padded n l) (length l) b ≡ padded n (l ++ (b ∷ []))
-unfolding padded
-padded-more n l b h =
-    let more : n - length l ≡ suc (n - (length l + 1)) = omega arith in
-    let count : length (l ++ (b ∷ [])) ≡ length l + 1 = length-append l (b ∷ []) in
-    rw (more, count) (set-at l 0 (replicate (n - (length l + 1)) 0) b (length l) refl ∙ sym (append-assoc l (b ∷ []) _))
 
 module _ {s : Standing} (sound : Sound s) where
   line : List ℕ
@@ -142,19 +133,6 @@ module _ (s : Standing) (x : Index) (l : List ℕ) {r : Fed} {x′ : Index} {l�
   end-silent sound e left = rw (holds sound, e) left
 
 -- ---- A chunk, from byte to byte
-
--- bytes stored in a part of a list are stored in the list
-pub part-stored : (l v : List ℕ) (a k : ℕ) → a + k ≤ length l → length v ≤ k → putMid a k l (sets (midOf a k l) 0 v) ≡ sets l a v
-part-stored l v a k h few =
-    let m = take k (drop a l) in
-    let q = drop k (drop a l) in
-    let d = drop (length v) m in
-    let long : length m ≡ k = length-take-le k (drop a l) (omega (arith, length-drop a l)) in
-    let stored : sets m 0 v ≡ v ++ d = sets-eq v m 0 (omega arith) ∙ rw zero-add in
-    let rest : drop (a + length v) l ≡ d ++ q = sym (drop-drop (length v) a l)
-    ∙ ap (λ (y : List ℕ). drop (length v) y) (sym (take-append-drop k (drop a l))) ∙ drop-append-le (length v) m q (omega arith) in
-    ap (λ (y : List ℕ). take a l ++ (y ++ q)) stored ∙ ap (λ (y : List ℕ). take a l ++ y) (append-assoc v d q)
-    ∙ sym (append-assoc (take a l) v (d ++ q)) ∙ ap (λ (y : List ℕ). (take a l ++ v) ++ y) (sym rest) ∙ sym (sets-eq v l a (omega arith))
 
 -- i bytes were fed: what the rest of the chunk does from here is what the chunk does from its start
 pub record Feeding (h₀ : Held) (chunk out₀ : List ℕ) (s : Standing) (x : Index) (answers out : List ℕ) (to i : ℕ) : Type 0 where

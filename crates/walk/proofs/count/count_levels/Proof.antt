@@ -1,8 +1,10 @@
 -- The count is that of the levels passed; each level's stretches are there, and the count of all is small.
 use mathlib.Core.Path.{_≡_, sym, ap, _∙_}
+use mathlib.Core.List.{List}
 use Prim.Native.Nat.{ℕ, _+_, _-_, _≤_}
 use lib.ListN.{length, length-append}
 use Rattle.lists.specs.Lists.{joined}
+use Rattle.trip.specs.declared.Trip.{Trip}
 use Rattle.plan.specs.Bounds.{inside}
 use Rattle.plan.specs.Plan.{stretchesAt}
 use Rattle.walk.specs.Levels.{levelUp}
@@ -23,6 +25,10 @@ abbrev μ-loop : tie.MeasureT-loop
 abbrev start-before-loop : tie.At-loop Inv-loop μ-loop → tie.Start Inv-loop μ-loop
 start-before-loop c = c .before .before .before .before .before .before
 
+-- what the levels list, from the deepest up
+abbrev level-row : tie.Start Inv-loop μ-loop → ℕ → List Trip
+level-row s = levelUp (inside (s .args .bounds)) (s .args .directory .now) (s .args .originals .now) (s .args .replicas .now) (s .args .plan)
+
 level-requires : tie.Need-level-requires Inv-loop μ-loop
 level-requires c κs = search needs
 
@@ -37,13 +43,9 @@ count-level-requires c κs =
     let s = start-before-loop (c .before .before) in
     let g = s .args in
     let q = c .before .before .loop in
-    let t = inside (g .bounds) in
-    let d = g .directory .now in
-    let o = g .originals .now in
-    let r = g .replicas .now in
     let at-level : c .stretches-at .result ≡ stretchesAt (g .plan) (g .plan .low .0 - q .up) =
     c .stretches-at .ensures ∙ ap (λ (m : ℕ). stretchesAt (g .plan) (m - q .up)) (q .inv .1) in
-    let room = row-room (levelUp t d o r (g .plan)) (q .up) (g .plan .low .0 + 1) (omega arith) (s .pre .1) in
+    let room = row-room (level-row s) (q .up) (g .plan .low .0 + 1) (omega arith) (s .pre .1) in
     let few = simp length-append at room in
     rw at-level (s .pre .0 .there (g .plan .low .0 - q .up) (omega arith), omega arith)
 
@@ -52,13 +54,9 @@ add-count c =
     let s = start-before-loop (c .before .before .before) in
     let g = s .args in
     let q = c .before .before .before .loop in
-    let t = inside (g .bounds) in
-    let d = g .directory .now in
-    let o = g .originals .now in
-    let r = g .replicas .now in
     let at-level : c .before .stretches-at .result ≡ stretchesAt (g .plan) (g .plan .low .0 - q .up) =
     c .before .stretches-at .ensures ∙ ap (λ (m : ℕ). stretchesAt (g .plan) (m - q .up)) (q .inv .1) in
-    let room = row-room (levelUp t d o r (g .plan)) (q .up) (g .plan .low .0 + 1) (omega arith) (s .pre .1) in
+    let room = row-room (level-row s) (q .up) (g .plan .low .0 + 1) (omega arith) (s .pre .1) in
     let few = simp length-append at room in
     let k = rw at-level at (c .count-level .ensures) in
     omega arith
@@ -74,15 +72,11 @@ loop-again c =
     let s = start-before-loop (c .before .before .before) in
     let g = s .args in
     let q = c .before .before .before .loop in
-    let t = inside (g .bounds) in
-    let d = g .directory .now in
-    let o = g .originals .now in
-    let r = g .replicas .now in
     let at-level : c .before .stretches-at .result ≡ stretchesAt (g .plan) (g .plan .low .0 - q .up) =
     c .before .stretches-at .ensures ∙ ap (λ (m : ℕ). stretchesAt (g .plan) (m - q .up)) (q .inv .1) in
-    let room = row-room (levelUp t d o r (g .plan)) (q .up) (g .plan .low .0 + 1) (omega arith) (s .pre .1) in
+    let room = row-room (level-row s) (q .up) (g .plan .low .0 + 1) (omega arith) (s .pre .1) in
     let k = rw at-level at (c .count-level .ensures) in
-    let n = simp length-append at (ap length (row-more (levelUp t d o r (g .plan)) (q .up))) in
+    let n = simp length-append at (ap length (row-more (level-row s) (q .up))) in
     (omega arith, q .inv .1, omega arith)
 
 returns : tie.Need-returns Inv-loop μ-loop

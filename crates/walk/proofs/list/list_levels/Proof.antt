@@ -1,8 +1,10 @@
 -- The ids of the levels passed stand in the list's first words; each level lists into the rest.
 use mathlib.Core.Path.{_≡_, refl, ap, _∙_}
+use mathlib.Core.List.{List}
 use Prim.Native.Nat.{ℕ, _+_, _-_, _≤_}
 use lib.ListN.{length}
 use Rattle.lists.specs.Lists.{joined}
+use Rattle.trip.specs.declared.Trip.{Trip}
 use Rattle.plan.specs.Bounds.{inside}
 use Rattle.plan.specs.Plan.{stretchesAt}
 use Rattle.walk.specs.Part.{Listed}
@@ -27,6 +29,10 @@ start-before-level c = c .before .before .before .before .before .before
 
 abbrev start-before-stretches-at : tie.After-stretches-at Inv-loop μ-loop → tie.Start Inv-loop μ-loop
 start-before-stretches-at c = start-before-level (c .before .before .before)
+
+-- what the levels list, from the deepest up
+abbrev level-row : tie.Start Inv-loop μ-loop → ℕ → List Trip
+level-row s = levelUp (inside (s .args .bounds)) (s .args .directory .now) (s .args .originals .now) (s .args .replicas .now) (s .args .plan)
 
 level-requires : tie.Need-level-requires Inv-loop μ-loop
 level-requires c κs = search needs
@@ -60,13 +66,9 @@ list-level-requires c κs =
     let s = start-before-stretches-at (c .before) in
     let g = s .args in
     let q = c .before .before .before .loop in
-    let t = inside (g .bounds) in
-    let d = g .directory .now in
-    let o = g .originals .now in
-    let r = g .replicas .now in
     let at-level : c .before .stretches-at .result ≡ stretchesAt (g .plan) (g .plan .low .0 - q .up) =
     c .before .stretches-at .ensures ∙ ap (λ (m : ℕ). stretchesAt (g .plan) (m - q .up)) (q .inv .1) in
-    let room = row-room (levelUp t d o r (g .plan)) (q .up) (g .plan .low .0 + 1) (omega arith) (s .pre .1) in
+    let room = row-room (level-row s) (q .up) (g .plan .low .0 + 1) (omega arith) (s .pre .1) in
     let fits = rest-room (q .inv .3) _ room in
     rw at-level (s .pre .0 .there (g .plan .low .0 - q .up) (omega arith), lent-room (q .answers) (q .count) _ fits)
 
@@ -75,13 +77,9 @@ add-count c =
     let s = start-before-stretches-at (c .before .before .before .before) in
     let g = s .args in
     let q = c .before .before .before .before .before .before .loop in
-    let t = inside (g .bounds) in
-    let d = g .directory .now in
-    let o = g .originals .now in
-    let r = g .replicas .now in
     let at-level : c .before .before .before .before .stretches-at .result ≡ stretchesAt (g .plan) (g .plan .low .0 - q .up) =
     c .before .before .before .before .stretches-at .ensures ∙ ap (λ (m : ℕ). stretchesAt (g .plan) (m - q .up)) (q .inv .1) in
-    let room = row-room (levelUp t d o r (g .plan)) (q .up) (g .plan .low .0 + 1) (omega arith) (s .pre .1) in
+    let room = row-room (level-row s) (q .up) (g .plan .low .0 + 1) (omega arith) (s .pre .1) in
     let fits = rest-room (q .inv .3) _ room in
     let k = rw at-level at (c .before .before .list-level .ensures) in
     omega (arith, k .counted)
@@ -101,16 +99,12 @@ loop-again c =
     let s = start-before-stretches-at (c .before .before .before .before) in
     let g = s .args in
     let q = c .before .before .before .before .before .before .loop in
-    let t = inside (g .bounds) in
-    let d = g .directory .now in
-    let o = g .originals .now in
-    let r = g .replicas .now in
     let at-level : c .before .before .before .before .stretches-at .result ≡ stretchesAt (g .plan) (g .plan .low .0 - q .up) =
     c .before .before .before .before .stretches-at .ensures ∙ ap (λ (m : ℕ). stretchesAt (g .plan) (m - q .up)) (q .inv .1) in
-    let room = row-room (levelUp t d o r (g .plan)) (q .up) (g .plan .low .0 + 1) (omega arith) (s .pre .1) in
+    let room = row-room (level-row s) (q .up) (g .plan .low .0 + 1) (omega arith) (s .pre .1) in
     let k = rw at-level at (c .before .before .list-level .ensures) in
     let more = listed-more (q .inv .3) (lent-back (q .answers) (q .count) k) in
-    (omega arith, q .inv .1, listed-length more room, rw (row-more (levelUp t d o r (g .plan)) (q .up)) more)
+    (omega arith, q .inv .1, listed-length more room, rw (row-more (level-row s) (q .up)) more)
 
 same-length : tie.Need-same-length Inv-loop μ-loop
 same-length c = c .before .loop .inv .2
