@@ -25,11 +25,11 @@ fn put_row(table: &mut [u32], row: usize, id: u32, start: u32, end: u32)
 
 // 4,096 rows with 18 partitions each: 17 replicas beside the original.
 fn most_partitions() {
-    let mut table = [0u32; 12288];
+    let mut table = [0u32; ENTRY_WORDS * 4096];
     fill_rows(&mut table, 256, 261632);
     let mut directory = [7u32; 8190];
-    let mut originals = [7u32; 12288];
-    let mut replicas = [7u32; 208896];
+    let mut originals = [7u32; ENTRY_WORDS * 4096];
+    let mut replicas = [7u32; ENTRY_WORDS * 69632];
     let outcome = build::build(
         say::ruler(18, 10),
         &table,
@@ -79,10 +79,10 @@ fn edits(table: &[u32], directory: &mut [u32], originals: &mut [u32]) {
 
 // 4,096 rows in one slot: the originals are the table again.
 fn one_slot() {
-    let mut table = [0u32; 12288];
+    let mut table = [0u32; ENTRY_WORDS * 4096];
     fill_rows(&mut table, 0, 0);
     let mut directory = [7u32; 14];
-    let mut originals = [7u32; 12291];
+    let mut originals = [7u32; ENTRY_WORDS * 4097];
     let built = build::build(
         say::ruler(1, 1),
         &table,

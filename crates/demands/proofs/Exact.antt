@@ -17,11 +17,11 @@ use Rattle.trip.specs.declared.Asking.{Asking}
 use Rattle.trip.specs.declared.Question.{Question}
 use Rattle.trip.specs.declared.Relationship.{Relationship}
 use Rattle.trip.specs.declared.Named.the-variants.{As}
-use Rattle.trip.specs.Relationships.{named, related}
+use Rattle.trip.specs.Relationships.{named}
 use Rattle.layout.specs.declared.Refusal.the-variants.{NoRoom}
 use Rattle.layout.specs.declared.Outcome.the-variants.{Accepted, Refused}
 use Rattle.layout.specs.Words.{rows, Reordered, Index, lengthsOf, layout}
-use Rattle.layout.specs.Answers.{matches, answer, question, subdivisionNumbered, census, runWords, runFrom}
+use Rattle.layout.specs.Answers.{matches, answer, question, subdivisionNumbered, census, runWords, runFrom, matching}
 use Rattle.layout.specs.Refusals.{windowTests, IndexOf, runOutcome, checkOutcome}
 use Rattle.layout.specs.Calls.{ifAccepted, leaving, buildOf, asked, askOf, censusOf, runOf, runFromOf}
 use Rattle.layout.proofs.Chains.{has-room, no-room, of-room, of-no-room}
@@ -74,12 +74,12 @@ module _ (n : Numbers) (x : Index) (table : List ℕ) (g : IndexOf (scaleOf n) t
         let o = given-outcome (scaleOf n) (given-fair n table x g) table x g q r is (length list) on-ruler in
         ((λ e. of-room k (length list) (sym o ∙ e)), λ h. o ∙ has-room k (length list) h)
 
--- the right ids are those of the trips that the question's relationship holds of
+-- the right ids are those of the trips that match the question
 pub right-ids : (q : Question) (ts : List Trip) (i : ℕ) → Mem i (answer q ts) ↔
-    ((t : Trip) × Mem t ts × T (related (q .relationship) (q .window) t) × (i ≡ t .id))
+    ((t : Trip) × Mem t ts × T (matching q t) × (i ≡ t .id))
 unfolding answer matches
 right-ids q ts i =
-    let p = related (q .relationship) (q .window) in (
+    let p = matching q in (
       (λ m.
           let a = of-ids (keep p ts) i (of-sort leb (map idOf (keep p ts)) i m) in
           let b = of-keep p ts (a .0) (a .1) in

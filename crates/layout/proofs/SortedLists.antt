@@ -13,12 +13,11 @@ use Rattle.lists.proofs.Sorting.{Sorted, Differ, below, differ-apart, unique, s
 use Rattle.ruler.specs.Ruler.{Scale}
 use Rattle.trip.specs.declared.Trip.{Trip}
 use Rattle.trip.specs.declared.Question.{Question}
-use Rattle.trip.specs.Relationships.{related}
 use Rattle.layout.specs.declared.Half.{Half}
 use Rattle.layout.specs.declared.Subdivision.{Subdivision}
 use Rattle.layout.specs.Stored.{belongs}
 use Rattle.layout.specs.Words.{order, partitions, levelOf, placeOf, slotTrips, subdivisionAt, slot, entriesBefore, entries}
-use Rattle.layout.specs.Answers.{matches, answer}
+use Rattle.layout.specs.Answers.{matches, answer, matching}
 use Rattle.layout.specs.Calls.{without}
 use Rattle.layout.proofs.RowOrder.{Distinct, slot-order, distinct-apart}
 
@@ -86,7 +85,7 @@ ids-in {ts} {us} h i m = let w = of-ids ts i m in rw (w .2) (to-ids us (w .0) (h
 
 pub matches-distinct : (q : Question) {ts : List Trip} → Distinct ts → Distinct (matches q ts)
 unfolding matches
-matches-distinct q d = pairs-keep (related (q .relationship) (q .window)) d
+matches-distinct q d = pairs-keep (matching q) d
 
 -- "lists exactly the right ids, each once, ascending"
 pub answer-ascends : (q : Question) (ts : List Trip) → Distinct ts → Sorted ltb (answer q ts)
@@ -98,5 +97,5 @@ answer-ascends q ts d =
 pub answer-same : (q : Question) (ts us : List Trip) → Distinct ts → Distinct us → In ts us → In us ts → answer q ts ≡ answer q us
 unfolding answer matches
 answer-same q ts us d e f g =
-    let p = related (q .relationship) (q .window) in
+    let p = matching q in
     ascending-same (ids-differ (matches-distinct q d)) (ids-differ (matches-distinct q e)) (ids-in (keep-in p f)) (ids-in (keep-in p g))

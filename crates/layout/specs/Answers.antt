@@ -20,9 +20,13 @@ use Rattle.layout.specs.declared.Subdivision.the-variants.{OIn, OAft, RI
 use Rattle.layout.specs.Stored.{partitionsAt}
 use Rattle.layout.specs.Words.{entryWords, slotTrips, slotNumber, entriesBefore, words}
 
--- "A question is a window together with one named relationship." The trips of a table that match it, and "the ids in ascending order"
+-- "A question is a window together with one named relationship." Whether a trip matches it, the trips of a table that do, and "the ids in
+-- ascending order"
+abbrev pub matching : Question → Trip → Bool
+matching q = related (q .relationship) (q .window)
+
 unfoldable pub matches : Question → List Trip → List Trip
-matches q ts = keep (related (q .relationship) (q .window)) ts
+matches q ts = keep (matching q) ts
 
 unfoldable pub answer : Question → List Trip → List ℕ
 answer q ts = ascending (map (λ (t : Trip). t .id) (matches q ts))

@@ -1,26 +1,27 @@
 // The table of the calls. A line is the call's name, its numbers, the buffers that it only reads and those that it may write; its answer is
 // the number, the detail, what else it gives and the buffers that it may write. A row says how many numbers and which buffers; `calls` has what is called.
 use crate::scan;
+use layout::ENTRY_WORDS;
 
 // The words that each buffer of a call may have.
-const TABLE: usize = 12300;
+const TABLE: usize = ENTRY_WORDS * 4100;
 
 const DIRECTORY: usize = 8200;
 
-const ORIGINALS: usize = 12300;
+const ORIGINALS: usize = ENTRY_WORDS * 4100;
 
-const REPLICAS: usize = 60000;
+const REPLICAS: usize = ENTRY_WORDS * 20000;
 
 const ANSWERS: usize = 4100;
 
 // The words lent: for all buffers together that a call only reads, and for each of those that it may write.
-pub const READ: usize = 80500;
+pub const READ: usize = DIRECTORY + ORIGINALS + REPLICAS;
 
-pub const FIRST: usize = 8200;
+pub const FIRST: usize = DIRECTORY;
 
-pub const SECOND: usize = 12300;
+pub const SECOND: usize = ORIGINALS;
 
-pub const THIRD: usize = 60000;
+pub const THIRD: usize = REPLICAS;
 
 // What is called.
 pub enum Call {

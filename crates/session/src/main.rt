@@ -1,6 +1,7 @@
 // The session program: it reads standard input in chunks and writes what each is answered. What is held between two chunks, and what a chunk
 // does and is answered, are the proved functions of `feeding`; this program reads, feeds and writes.
 use feeding::Standing;
+use layout::ENTRY_WORDS;
 use libc::STDIN_FILENO;
 use libc::STDOUT_FILENO;
 ghost use mathlib.Core.Path.{_≡_};
@@ -13,9 +14,9 @@ ghost use Rattle.feeding.specs.Feeding.{feedOf, heldBy, Sound, Reached};
 // The words lent: a directory for m = 8, 256 originals, 3,328 replicas and 256 answers.
 const DIRECTORY: usize = 2046;
 
-const ORIGINALS: usize = 768;
+const ORIGINALS: usize = ENTRY_WORDS * 256;
 
-const REPLICAS: usize = 9984;
+const REPLICAS: usize = ENTRY_WORDS * 3328;
 
 const ANSWERS: usize = 256;
 
