@@ -22,4 +22,5 @@ pub mod Halving
 -- loops, and parts that are lent
 pub mod Stores
 pub mod Lent
+pub mod Overwritten
 pub mod Backward

@@ -1,11 +1,12 @@
 -- A directory by its halves: the last word of each, and both lent by code one after the other.
-use mathlib.Core.Path.{_≡_, sym, ap, ap₂, _∙_}
-use mathlib.Core.List.{List, [], _++_, append-nil}
+use mathlib.Core.Path.{_≡_, sym, ap, _∙_}
+use mathlib.Core.List.{List, _++_}
 use Prim.Native.Nat.{ℕ, _+_, _-_, _<_}
 use native.Mathlib.Omega.{arith}
-use lib.ListN.{length, getD, take, drop, length-drop, take-append-drop, drop-of-length-le, List·getD-append}
-use lib.Seq.{length-take-le, take-at, drop-at, take-all}
+use lib.ListN.{length, getD, take, drop, length-drop, take-append-drop, List·getD-append, length-append}
+use lib.Seq.{length-take-le, drop-at}
 use borrow.Rule.Slice.PartMut.{putMid}
+use Rattle.lists.proofs.Lent.{head-lent, tail-lent, both-back as parts-back}
 use Rattle.layout.specs.Words.{halfLength, directoryLength}
 use Rattle.layout.proofs.Numbers.{halves-length}
 use Rattle.store.specs.Halves.{total}
@@ -29,10 +30,10 @@ two-halves m e f = omega (arith, halves-length m)
 
 module _ (d : List ℕ) (h n : ℕ) (both : n ≡ h + h) (long : length d ≡ n) where
   pub first-lent : take (h - 0) d ≡ take h d
-  first-lent = let e : h - 0 ≡ h = omega arith in rw e
+  first-lent = head-lent d h
 
   pub second-lent : take (n - h) (drop h d) ≡ drop h d
-  second-lent = take-all (n - h) (drop h d) (omega (arith, length-drop h d))
+  second-lent = let e : n - h ≡ length d - h = omega arith in rw e (tail-lent d h)
 
   -- each has as many words
   pub first-long : length (take (h - 0) d) ≡ h
@@ -57,6 +58,5 @@ module _ (d : List ℕ) (h n : ℕ) (both : n ≡ h + h) (long : length d ≡ n)
     pub both-back : (g : List ℕ) → putMid h (n - h) back g ≡ f ++ g
     both-back g =
         let rest = drop (h - 0) d in
-        let none : drop (n - h) (drop h back) ≡ [] =
-        ap (drop (n - h)) (drop-at f rest h size) ∙ drop-of-length-le rest {i = n - h} (omega (arith, length-drop (h - 0) d)) in
-        ap₂ (λ (x y : List ℕ). x ++ (g ++ y)) (take-at f rest h size) none ∙ ap (λ (x : List ℕ). f ++ x) (append-nil g)
+        let e : n - h ≡ length (f ++ rest) - h = omega (arith, length-append f rest, length-drop (h - 0) d) in
+        rw e (parts-back f rest g h size)
