@@ -67,6 +67,28 @@ static void run(words x, uint32_t level, uint32_t at) {
     printf("\n");
 }
 
+static void given_back(words x) {
+    free(x.directory);
+    free(x.originals);
+    free(x.replicas);
+}
+
+/* The most that an index can need: trips over all partitions of the deepest level but the first and the last fill both arenas to the last word. */
+static void longest_trips(void) {
+    const uint32_t partition = 1u << (W - M);
+    uint32_t table[TRIPS * KHEYAMBO_ENTRY_WORDS];
+    words x = lent();
+    for (uint32_t i = 0; i < TRIPS; i++) {
+        table[KHEYAMBO_ENTRY_WORDS * i] = i;
+        table[KHEYAMBO_ENTRY_WORDS * i + 1] = partition;
+        table[KHEYAMBO_ENTRY_WORDS * i + 2] = (1u << W) - partition - 1;
+    }
+    said("the longest trips", kheyambo_build(W, M, TABLE(table), INDEX(x)));
+    x.replicas_words--;
+    said("in a word less", kheyambo_build(W, M, TABLE(table), INDEX(x)));
+    given_back(x);
+}
+
 int main(void) {
     const uint32_t table[] = {
         101, AT(22, 50), AT(23, 35), /* ends before midnight */
@@ -95,8 +117,7 @@ int main(void) {
     under_way(x, AT(25, 5), AT(25, 10));
     census(x, "census of it");
     run(x, M, AT(22, 50));
-    free(x.directory);
-    free(x.originals);
-    free(x.replicas);
+    given_back(x);
+    longest_trips();
     return 0;
 }

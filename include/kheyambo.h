@@ -32,6 +32,7 @@ enum {
     KHEYAMBO_WIDEST = 24,          /* w is 1 to 24 */
     KHEYAMBO_DEEPEST = 10,         /* m is 0 to 10, and at most w */
     KHEYAMBO_MOST_TRIPS = 4096,    /* the trips of an index, and the rows of a table */
+    KHEYAMBO_MOST_ENTRIES = 18,    /* the entries of one trip, in both arenas together, at m = 10 */
     KHEYAMBO_ENTRY_WORDS = 3       /* the words of a table's row and of an index's entry: id, start, end */
 };
 
@@ -40,11 +41,13 @@ static inline size_t kheyambo_directory_words(uint32_t m) {
     return m > KHEYAMBO_DEEPEST ? 0 : 4 * (((size_t)2 << m) - 1) + 2;
 }
 
-/* The most entries that one trip has, in both arenas together; exactly one of them is an original. */
+/* The most entries that one trip has, in both arenas together: one for each partition that holds it (the laws most-partitions, which says that
+   no trip has more, and most-reached). Exactly one of them is an original. */
 static inline size_t kheyambo_most_entries(uint32_t m) { return m < 2 ? 1 : 2 * ((size_t)m - 1); }
 
-/* The words that an arena needs at the most for so many trips. A table of short trips needs far fewer replicas; a build that is refused with
-   KHEYAMBO_NO_ROOM has changed nothing, and can be tried again with longer arenas. */
+/* The words that an arena needs at the most for so many trips: 12,288 for the originals and 208,896 for the replicas of 4,096 trips at m = 10. A table
+   of short trips needs far fewer replicas; a build that is refused with KHEYAMBO_NO_ROOM has changed nothing, and can be tried again with longer
+   arenas. */
 static inline size_t kheyambo_originals_words(size_t trips) { return KHEYAMBO_ENTRY_WORDS * trips; }
 static inline size_t kheyambo_replicas_words(uint32_t m, size_t trips) {
     return KHEYAMBO_ENTRY_WORDS * (kheyambo_most_entries(m) - 1) * trips;
@@ -83,8 +86,7 @@ enum {
     KHEYAMBO_NOT_AN_INDEX = 8,         /* the words are no table's index for this ruler and these lengths */
     KHEYAMBO_NO_RELATIONSHIP = 9,
     KHEYAMBO_NO_SUCH_ID = 10,
-    KHEYAMBO_TOO_MANY_PARTITIONS = 11, /* kept from the old exporter: no trip meets it */
-    KHEYAMBO_NO_SUCH_SLOT = 12
+    KHEYAMBO_NO_SUCH_SLOT = 12         /* 11 is given by no call and isn't used again: docs/REFUSALS.md */
 };
 
 /* ---- What the calls answer */
@@ -120,7 +122,7 @@ typedef uint32_t kheyambo_counts[KHEYAMBO_LEVELS][KHEYAMBO_SUBDIVISIONS];
 
 /* ---- The calls. The numbers after "Refuses" are in the order in which they are judged. Cost: n trips, e entries. */
 
-/* Builds the index of a table of rows, over whatever the words were. Refuses 1, 2, 3; for the first bad row 4, 5, 6, 11; 7.
+/* Builds the index of a table of rows, over whatever the words were. Refuses 1, 2, 3; for the first bad row 4, 5, 6; 7.
    Cost: one pass for each level of each trip, and a sort of each slot and of the ids; n log n at the most. */
 kheyambo_said kheyambo_build(uint32_t w, uint32_t m, const uint32_t *table, size_t table_words, uint32_t *directory,
                              size_t directory_words, uint32_t *originals, size_t originals_words, uint32_t *replicas,
@@ -132,7 +134,7 @@ kheyambo_said kheyambo_check(uint32_t w, uint32_t m, const uint32_t *directory, 
                              const uint32_t *originals, size_t originals_words, const uint32_t *replicas,
                              size_t replicas_words);
 
-/* Adds a trip: every word is then what a build with it would write. Refuses 1, 3, 8, 2, 4, 5, 6, 11, 7.
+/* Adds a trip: every word is then what a build with it would write. Refuses 1, 3, 8, 2, 4, 5, 6, 7.
    Cost: a check, and for each entry of the trip a move of the entries after it. */
 kheyambo_said kheyambo_add(uint32_t w, uint32_t m, uint32_t id, uint32_t start, uint32_t end, uint32_t *directory,
                            size_t directory_words, uint32_t *originals, size_t originals_words, uint32_t *replicas,

@@ -5,12 +5,12 @@
 
 #include "kheyambo.h"
 
-enum { W = 18, M = 10, DIRECTORY = 8190, TRIPS = 4096, MOST_PARTITIONS = 20, ANSWERS = 4096, G_OVERLAPS = 13 };
+enum { W = 18, M = 10, DIRECTORY = 8190, TRIPS = 4096, ANSWERS = 4096, G_OVERLAPS = 13 };
 
 static uint32_t table[TRIPS * KHEYAMBO_ENTRY_WORDS];
 static uint32_t directory[DIRECTORY];
 static uint32_t originals[TRIPS * KHEYAMBO_ENTRY_WORDS];
-static uint32_t replicas[TRIPS * MOST_PARTITIONS * KHEYAMBO_ENTRY_WORDS];
+static uint32_t replicas[TRIPS * (KHEYAMBO_MOST_ENTRIES - 1) * KHEYAMBO_ENTRY_WORDS];
 static uint32_t answers[ANSWERS];
 
 #define WORDS(list) list, sizeof(list) / sizeof(list[0])

@@ -7,12 +7,12 @@
 
 #include "kheyambo.h"
 
-enum { W = 18, M = 10, TRIPS = 4096, MOST_PARTITIONS = 18, STACK = 1 << 20, PAINT = 0xa5 };
+enum { W = 18, M = 10, TRIPS = 4096, STACK = 1 << 20, PAINT = 0xa5 };
 
 static uint32_t table[TRIPS * KHEYAMBO_ENTRY_WORDS];
 static uint32_t directory[8190];
 static uint32_t originals[TRIPS * KHEYAMBO_ENTRY_WORDS];
-static uint32_t replicas[TRIPS * MOST_PARTITIONS * KHEYAMBO_ENTRY_WORDS];
+static uint32_t replicas[TRIPS * (KHEYAMBO_MOST_ENTRIES - 1) * KHEYAMBO_ENTRY_WORDS];
 static uint32_t answers[TRIPS];
 static kheyambo_counts counts;
 

@@ -17,8 +17,8 @@ use Rattle.ruler.specs.Ruler.{Scale, scale}
 use Rattle.trip.specs.declared.Trip.{Trip}
 use Rattle.layout.specs.declared.Half.the-variants.{Originals, Replicas}
 use Rattle.layout.specs.declared.Outcome.the-variants.{Accepted}
-use Rattle.layout.specs.Words.{entryWords, tripAt, rows, entries}
-use Rattle.layout.specs.Refusals.{hasId, noRoom, partitionsHolding, rowTests, firstBadRow}
+use Rattle.layout.specs.Words.{entryWords, tripAt, rows, partitionsHolding, entries}
+use Rattle.layout.specs.Refusals.{hasId, noRoom, rowTests, firstBadRow}
 use Rattle.layout.proofs.RowOrder.{OtherId, Distinct, length-same}
 use Rattle.layout.proofs.Rows.{length-rows, getD-rows}
 use Rattle.layout.proofs.Chains.{to-hasId}

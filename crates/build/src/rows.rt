@@ -1,6 +1,5 @@
 // The tests of a table's rows in their order, and the room that its entries need.
 use layout::ENTRY_WORDS;
-use layout::MOST_PARTITIONS;
 use layout::Outcome;
 use layout::Refusal;
 use layout::is_accepted;
@@ -17,8 +16,8 @@ ghost use Prim.Native.Nat.{_/_, _<_, _≤_};
 ghost use lib.ListN.{length};
 ghost use Rattle.lists.specs.Lists.{sumOver};
 ghost use Rattle.ruler.specs.Ruler.{mostTrips, inBounds, scale};
-ghost use Rattle.layout.specs.Words.{entryWords, tripAt, rows};
-ghost use Rattle.layout.specs.Refusals.{hasId, noRoom, partitionsHolding, rowTests, firstBadRow};
+ghost use Rattle.layout.specs.Words.{entryWords, tripAt, rows, partitionsHolding};
+ghost use Rattle.layout.specs.Refusals.{hasId, noRoom, rowTests, firstBadRow};
 ghost use Rattle.store.specs.Ids.{idsDiffer};
 ghost use Rattle.build.specs.HalfBuilt.{Tested};
 ghost use Rattle.build.specs.RowsJudged.{rowsBack, lengths};
@@ -52,7 +51,7 @@ fn id_taken(table: &[u32], i: usize, id: u32, differ: bool) -> bool
     id_before(table, i, id)
 }
 
-// The tests of row i: 4, 5, 6, 11.
+// The tests of row i: 4, 5, 6.
 fn row_outcome(ruler: Ruler, table: &[u32], i: usize, differ: bool) -> Outcome
     requires { ⌜ inBounds (ruler .numbers) ≡ true ⌝ }
     requires { ⌜ (i < length (now table) / entryWords) × (length (now table) / entryWords ≤ mostTrips) ⌝ }
@@ -69,10 +68,6 @@ fn row_outcome(ruler: Ruler, table: &[u32], i: usize, differ: bool) -> Outcome
     }
     if id_taken(table, i, t.id, differ) {
         return refused(Refusal::IdTaken, row);
-    }
-    // No trip can meet this test; it is kept from the old exporter.
-    if MOST_PARTITIONS < partitions_holding(ruler, t) {
-        return refused(Refusal::TooManyPartitions, row);
     }
     Outcome::Accepted
 }

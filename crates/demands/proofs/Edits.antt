@@ -95,7 +95,7 @@ history-index n x table g es = history-left n x table g es .is-index
 
 -- ---- "Room freed by a removal serves the next addition."
 
--- A trip u of the table can be taken out. Then every trip t that passes its own tests (4, 5, 6, 11) beside the trips left, and has no more entries
+-- A trip u of the table can be taken out. Then every trip t that passes its own tests (4, 5, 6) beside the trips left, and has no more entries
 -- in either half than u had, is accepted: however little room the arenas have.
 module _ (n : Numbers) (x : Index) (table : List ℕ) (g : IndexOf (scaleOf n) table x) (u : Trip) (there : Mem u (rows table)) where
   pub trip-removed : removeOf (scaleOf n) x (u .id) .outcome ≡ Accepted

@@ -6,23 +6,24 @@ use mathlib.Core.Path.{_≡_, sym, _∙_}
 use mathlib.Core.Logic.{_↔_}
 use mathlib.Core.Bool.{false}
 use mathlib.Core.List.{List, []}
-use Prim.Native.Nat.{ℕ}
+use Prim.Native.Nat.{ℕ, _≤_}
 use native.Mathlib.Omega.{arith}
 use lib.Dec.{T}
 use lib.ListN.{length}
 use Rattle.lists.proofs.Tests.{of-T, of-no-T}
 use Rattle.ruler.specs.declared.Numbers.{Numbers}
 use Rattle.ruler.specs.Ruler.{inBounds, scaleOf}
-use Rattle.ruler.proofs.Fair.{scale-good}
+use Rattle.ruler.proofs.Fair.{scale-good, scale-m}
 use Rattle.trip.specs.declared.Trip.{Trip}
 use Rattle.trip.specs.declared.Asking.{Asking}
 use Rattle.layout.specs.declared.Refusal.{Refusal}
-use Rattle.layout.specs.declared.Refusal.the-variants.{NotAnIndex}
+use Rattle.layout.specs.declared.Refusal.the-variants.{RulerOutOfBounds, TableSize, DirectoryLength, OffRuler, Backward, IdTaken, NoRoom, NotAnIndex, NoRelationship, NoSuchId, NoSuchSlot}
 use Rattle.layout.specs.declared.Outcome.{Outcome}
 use Rattle.layout.specs.declared.Outcome.the-variants.{Accepted, Refused}
-use Rattle.layout.specs.Words.{directoryLength, Index}
+use Rattle.layout.specs.Words.{directoryLength, partitionsHolding, Index}
 use Rattle.layout.specs.Refusals.{refusalNumber, numberOf, refuse, timeTests, rowTests, windowTests, questionTests, roomTest, IndexOfSome, isIndex, indexTests, addOutcome, removeOutcome, askOutcome, runOutcome, checkOutcome}
 use Rattle.layout.specs.Calls.{ifAccepted, leaving, buildOf, addOf, removeOf, askOf, censusOf, noCensus, runOf}
+use Rattle.layout.proofs.MostPartitions.{deepest-most}
 use Rattle.layout.proofs.Chains.{refused-not}
 use Rattle.layout.proofs.Indexes.{to-isIndex, given-indexed, given-fair, index-of-some}
 use Rattle.layout.proofs.EditsBuild.{to-indexTests}
@@ -62,6 +63,31 @@ module _ (n : Numbers) (x : Index) (why : Refusal) (d : ℕ) where
   unfolding censusOf ifAccepted
   census-refused e = rw e
 
+-- ---- no refusal for a trip's partitions (document 02, T-06)
+
+-- "By document 01's bounds on m no trip can meet it": for a ruler in bounds no trip lies in more than 18 partitions. (For any scale, by its m, and that
+-- some trips lie in as many: `most-partitions` and `most-reached` in layout/proofs/MostPartitions.antt.)
+pub eighteen-at-most : (n : Numbers) → T (inBounds n) → (t : Trip) → partitionsHolding (scaleOf n) t ≤ 18
+eighteen-at-most n h t = deepest-most (scaleOf n) t (scale-m n h)
+
+-- "The number isn't used again.": no outcome of any call has it
+pub no-eleven : (o : Outcome) → numberOf o ≡ 11 → ⊥
+no-eleven Accepted e = omega arith
+no-eleven (Refused why d) e = other why e
+  where
+    other : (why : Refusal) → refusalNumber why ≡ 11 → ⊥
+    other RulerOutOfBounds e = omega arith
+    other TableSize e = omega arith
+    other DirectoryLength e = omega arith
+    other OffRuler e = omega arith
+    other Backward e = omega arith
+    other IdTaken e = omega arith
+    other NoRoom e = omega arith
+    other NotAnIndex e = omega arith
+    other NoRelationship e = omega arith
+    other NoSuchId e = omega arith
+    other NoSuchSlot e = omega arith
+
 -- ---- 8 "directory and arenas aren't the index of any table for this ruler and these lengths (a table means one that build accepts)"
 
 module _ (n : Numbers) (x : Index) where
@@ -94,7 +120,7 @@ module _ (n : Numbers) (x : Index) where
     unfolding addOutcome rowTests timeTests
     add-eight t = of-call _ (other-link _ _ 0 _ (λ e. omega arith)
         (other-link _ _ 0 _ (λ e. omega arith) (other-link _ _ 0 _ (λ e. omega arith) (other-link _ _ 0 _ (λ e. omega arith)
-        (other-link _ _ 0 _ (λ e. omega arith) (other-link _ _ 0 _ (λ e. omega arith) (λ e. omega arith)))))))
+        (other-link _ _ 0 _ (λ e. omega arith) (λ e. omega arith))))))
 
     pub remove-eight : (i : ℕ) → (removeOutcome (scaleOf n) x i ≡ Refused NotAnIndex 0) ↔ (IndexOfSome (scaleOf n) x → ⊥)
     unfolding removeOutcome

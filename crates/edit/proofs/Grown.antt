@@ -10,13 +10,12 @@ use Rattle.lists.proofs.Upto.{length-upTo}
 use Rattle.ruler.specs.Ruler.{Scale}
 use Rattle.trip.specs.declared.Trip.{Trip}
 use Rattle.layout.specs.declared.Half.{Half}
-use Rattle.layout.specs.Words.{words, partitions, slot, entriesBefore, entries, Index, lengthsOf, subdivisionAt}
+use Rattle.layout.specs.Words.{partitions, slot, entriesBefore, entries, Index, subdivisionAt}
 use Rattle.layout.specs.Words as laid
 use Rattle.layout.specs.Refusals.{tableOf}
 use Rattle.store.specs.TripWalk.{slotsOfTrip}
 use Rattle.layout.proofs.Rows.{words-le, words-add}
 use Rattle.layout.proofs.EditsBuild.{Addable, of-add, added-table}
-use Rattle.store.proofs.TripWalk.{those}
 use Rattle.layout.proofs.SlotMembers.{inSlot}
 use Rattle.layout.proofs.RowOrder.{slot-sorted}
 use Rattle.layout.proofs.SlotEdited.{slot-gets, slot-same-added, slot-longer, slot-fresh}
@@ -116,7 +115,7 @@ module _ (s : Scale) (half : Half) (x : Index) (t : Trip) (dir arena : List ℕ)
           let all = room-in s half (t ∷ tableOf s x) x (facts .room) in
           let n = length (flat (grownSlots j)) in
           omega (arith, words-le one-more, words-add n 1, all, size ∙ long s half x t (t ∷ tableOf s x) dir arena passing);
-      few = omega (arith, one-more, entries-most s half (t ∷ tableOf s x) (lengthsOf x) (added-table s x t facts));
+      few = omega (arith, one-more, entries-most s (a .deep) (t ∷ tableOf s x) (added-table s x t facts .few) half);
     }
 
     turn : (D′ A′ : List ℕ) → Holds D′ A′ (insertedIn (getD (slotsOfTrip s half t) j 0) (placeIn half (getD (slotsOfTrip s half t) j 0) t

@@ -20,6 +20,7 @@ use Rattle.layout.specs.Calls.{index}
 use Rattle.layout.proofs.Indexes.{Indexed}
 use Rattle.layout.proofs.ByDirectory.{directory-long}
 use Rattle.layout.proofs.EditsBuild.{of-add, of-remove}
+use Rattle.layout.proofs.RulerCells.{deep-ruler}
 use Rattle.store.proofs.Halves.{two-halves}
 use Rattle.edit.specs.HalfEdited.{HalfOf, Adding, Removing}
 use Rattle.edit.proofs.IndexRead.{firstHalf, firstBack, secondHalf, first-of, second-of, both-of}
@@ -41,7 +42,7 @@ adding r good x t a =
     let c = cells-in r good t (e .rowOk .fits) in
     record {
       is-index = e .is-index;
-      ready = λ half dir arena w. record { accepted = a; start-in = c .0; end-in = c .1; words-are = w };
+      ready = λ half dir arena w. record { deep = deep-ruler r good; accepted = a; start-in = c .0; end-in = c .1; words-are = w };
     }
 
 pub removing : (r : Ruler) → inBounds (r .numbers) ≡ true → (x : Index) (t : Trip) → removeOutcome (scale r) x (t .id) ≡ Accepted

@@ -12,17 +12,18 @@ use lib.Seq.{take-at, drop-at, drop-length, drop-cons}
 use borrow.Rule.Slice.PartMut.{putMid}
 use borrow.Author.Tests.{eqb-true, lt-ltb, le-ltb}
 use Rattle.lists.specs.Lists.{padded}
-use Rattle.ruler.specs.Ruler.{Scale, mostTrips}
+use Rattle.ruler.specs.Ruler.{Scale, deepest, mostTrips}
 use Rattle.trip.specs.declared.Trip.{Trip}
 use Rattle.layout.specs.declared.Half.the-variants.{Originals, Replicas}
 use Rattle.layout.specs.Words.{entryWords, tripAt, words, rows, partitions, halfLength, directoryLength, entries, directoryHalf, Index, lengthsOf, layout}
 use Rattle.layout.specs.Words as laid
-use Rattle.layout.specs.Refusals.{hasId, tableOf, mostPartitions}
+use Rattle.layout.specs.Refusals.{hasId, tableOf}
 use Rattle.layout.specs.Calls.{index}
 use Rattle.layout.proofs.Rows.{words-length, rows-words, getD-rows}
 use Rattle.layout.proofs.Indexes.{Indexed, directoryHalf-length, table-of-layout}
 use Rattle.layout.proofs.ByDirectory.{directory-are, originals-are, replicas-are, directory-long, originals-laid, replicas-laid}
 use Rattle.layout.proofs.MostEntries.{entries-most}
+use Rattle.store.specs.Passes.{mostEntries}
 use Rattle.store.specs.Halves.{total}
 use Rattle.store.specs.Ordered.{noTrip}
 use Rattle.store.proofs.Halves.{total-at, two-halves, first-lent, second-next, both-back}
@@ -97,7 +98,7 @@ pub record Shown (s : Scale) (x : Index) : Type 0 where
   pub inside : entryWords * length (tableOf s x) ≤ length (x .originals)
   pub listed : rows (take (entryWords * length (tableOf s x) - 0) (x .originals)) ≡ tableOf s x
   pub few : length (tableOf s x) ≤ mostTrips
-  pub few-copies : length (entries s Replicas (tableOf s x)) ≤ mostTrips * mostPartitions
+  pub few-copies : length (entries s Replicas (tableOf s x)) ≤ mostEntries
 
 -- the directory's first half as it is lent, of `half` words; the directory with f come back for it; and then its second half
 abbrev pub firstHalf : (half : ℕ) → Index → List ℕ
@@ -140,8 +141,8 @@ module _ (s : Scale) (x : Index) (h : Indexed s x) where
   unfolding lengthsOf
   enough = subst (λ (l : List Trip). entryWords * length l ≤ length (x .originals)) (sym itself) (h .table .room .for-originals)
 
-  pub shown : Shown s x
-  shown = record {
+  pub shown : s .m ≤ deepest → Shown s x
+  shown deep = record {
     size = directory-long s x h;
     trips = many;
     copies = replicated;
@@ -149,7 +150,7 @@ module _ (s : Scale) (x : Index) (h : Indexed s x) where
     inside = enough;
     listed = front;
     few = h .table .few;
-    few-copies = entries-most s Replicas (tableOf s x) (lengthsOf x) (h .table);
+    few-copies = entries-most s deep (tableOf s x) (h .table .few) Replicas;
   }
 
   -- ---- its halves, as an edit lends them

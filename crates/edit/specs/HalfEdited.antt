@@ -1,9 +1,9 @@
 -- One half of the words of an index, before an edit that is accepted and after it.
 use mathlib.Core.Path.{_≡_}
 use mathlib.Core.List.{List, List·Memᴰ as Mem}
-use Prim.Native.Nat.{ℕ, _^_, _<_}
+use Prim.Native.Nat.{ℕ, _^_, _≤_, _<_}
 use lib.ListN.{length}
-use Rattle.ruler.specs.Ruler.{Scale}
+use Rattle.ruler.specs.Ruler.{Scale, deepest}
 use Rattle.trip.specs.declared.Trip.{Trip}
 use Rattle.layout.specs.declared.Half.{Half}
 use Rattle.layout.specs.declared.Outcome.the-variants.{Accepted}
@@ -17,8 +17,9 @@ pub record HalfOf (s : Scale) (half : Half) (ts : List Trip) (x : Index) (dir ar
   pub directory-is : dir ≡ directoryHalf s half ts
   pub arena-is : arena ≡ laid.arena s half ts (length (arenaOf half (x .originals) (x .replicas)))
 
--- the half's words in x, to which the trip can be added; its times have cells of the scale
+-- the half's words in x, to which the trip can be added; the scale is no deeper than a ruler's, and the trip's times have cells of it
 pub record Adding (s : Scale) (half : Half) (x : Index) (t : Trip) (dir arena : List ℕ) : Type 0 where
+  pub deep : s .m ≤ deepest
   pub accepted : addOutcome s x t ≡ Accepted
   pub start-in : s .cell (t .start) < 2 ^ s .m
   pub end-in : s .cell (t .end) < 2 ^ s .m

@@ -1,7 +1,6 @@
 // What an edit asks before it writes anything.
 use layout::ENTRY_WORDS;
 use layout::Half;
-use layout::MOST_PARTITIONS;
 use layout::Outcome;
 use layout::Refusal;
 use layout::is_accepted;
@@ -20,7 +19,7 @@ ghost use lib.ListN.{length};
 ghost use Rattle.ruler.specs.Ruler.{inBounds, scale};
 ghost use Rattle.layout.specs.declared.Outcome.{Outcome};
 ghost use Rattle.layout.specs.Words.{entryWords, rows};
-ghost use Rattle.layout.specs.Refusals.{partitionsHolding, rowTests, checkOutcome, addOutcome};
+ghost use Rattle.layout.specs.Refusals.{rowTests, checkOutcome, addOutcome};
 ghost use Rattle.layout.specs.Calls.{index};
 ghost use Rattle.store.specs.TripWalk.{slotsOfTrip};
 ghost use Rattle.store.specs.Passes.{mostEntries};
@@ -52,15 +51,6 @@ fn entries_of_trip(ruler: Ruler, half: Half, t: Trip) -> usize
     places::trip_slots(ruler, half, t, &mut spots)
 }
 
-// How many partitions hold a trip: each has one entry of it, in one half or the other.
-fn partitions_of_trip(ruler: Ruler, t: Trip) -> usize
-    requires { ⌜ inBounds (ruler .numbers) ≡ true ⌝ }
-    requires { ⌜ (scale ruler .cell (t .start) < 2 ^ scale ruler .m) × (scale ruler .cell (t .end) < 2 ^ scale ruler .m) ⌝ }
-    ensures { λ r. ⌜ r ≡ partitionsHolding (scale ruler) t ⌝ }
-{
-    entries_of_trip(ruler, Half::Originals, t) + entries_of_trip(ruler, Half::Replicas, t)
-}
-
 // Whether an arena of so many words lacks room for `used` entries and those of the trip.
 fn lacks_room(ruler: Ruler, half: Half, used: usize, words: usize, t: Trip) -> bool
     requires { ⌜ inBounds (ruler .numbers) ≡ true ⌝ }
@@ -70,7 +60,7 @@ fn lacks_room(ruler: Ruler, half: Half, used: usize, words: usize, t: Trip) -> b
     words < ENTRY_WORDS * (used + entries_of_trip(ruler, half, t))
 }
 
-// The tests 4, 5, 6 and 11 of a trip beside those that are there.
+// The tests 4, 5 and 6 of a trip beside those that are there.
 fn trip_outcome(ruler: Ruler, there: &[u32], t: Trip) -> Outcome
     requires { ⌜ inBounds (ruler .numbers) ≡ true ⌝ }
     ensures { λ r. ⌜ r ≡ rowTests (scale ruler) (rows (now (there .entry))) t 0 Outcome.Accepted ⌝ }
@@ -84,13 +74,10 @@ fn trip_outcome(ruler: Ruler, there: &[u32], t: Trip) -> Outcome
     if find_id(there, t.id) < there.len() / ENTRY_WORDS {
         return refused(Refusal::IdTaken, 0);
     }
-    if (MOST_PARTITIONS as usize) < partitions_of_trip(ruler, t) {
-        return refused(Refusal::TooManyPartitions, 0);
-    }
     Outcome::Accepted
 }
 
-// The outcome of an addition to words that are an index: 2, then 4, 5, 6 and 11 of the trip, then 7.
+// The outcome of an addition to words that are an index: 2, then 4, 5 and 6 of the trip, then 7.
 pub fn add_outcome(
     ruler: Ruler,
     directory: &[u32],

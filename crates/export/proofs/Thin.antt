@@ -40,7 +40,7 @@ module _ (w m L i d : ℕ) (x : Index) {p : Place} (e : p ≡ placeOf (scaleOf (
   -- its words are few, so that 32 bits tell where it begins and how long it is
   pub run-small : (p .from < 2 ^ 32) × (p .length < 2 ^ 32)
   run-small =
-      let ends = run-ends (scaleOf (numbersOf w m)) x L i d in
+      let ends = run-ends (numbersOf w m) x L i d in
       rw e (omega (arith, ends), omega (arith, ends))
 
   pub run-shown : {k a : ℕ} → k ≡ numberOf (p .outcome) → a ≡ ifAccepted (p .outcome) (arenaOf d) 0

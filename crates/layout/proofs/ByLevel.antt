@@ -11,8 +11,7 @@ use Rattle.lists.proofs.Counts.{count-add, count-ext}
 use Rattle.ruler.specs.Ruler.{Scale}
 use Rattle.trip.specs.declared.Trip.{Trip}
 use Rattle.layout.specs.Stored.{holds, holdsTrip}
-use Rattle.layout.specs.Words.{partitions, partitionNumber, levelOf, placeOf}
-use Rattle.layout.specs.Refusals.{partitionsHolding}
+use Rattle.layout.specs.Words.{partitions, partitionNumber, levelOf, placeOf, partitionsHolding}
 use Rattle.layout.proofs.Numbers.{level-number, place-number}
 
 next-level : (L : ℕ) → partitionNumber (suc L) 0 ≡ partitionNumber L 0 + 2 ^ L

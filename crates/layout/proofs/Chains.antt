@@ -19,7 +19,7 @@ use Rattle.layout.specs.declared.Refusal.the-variants.{OffRuler, Backwar
 use Rattle.layout.specs.declared.Outcome.{Outcome}
 use Rattle.layout.specs.declared.Outcome.the-variants.{Accepted, Refused}
 use Rattle.layout.specs.Words.{entryWords, directoryLength, entries, Lengths}
-use Rattle.layout.specs.Refusals.{refuse, isAccepted, outOfBounds, badSize, badDirectory, offRuler, backward, hasId, noRoom, exceeds, mostPartitions, partitionsHolding, inTooMany, timeTests, windowTests, roomTest, onRuler, OnRuler}
+use Rattle.layout.specs.Refusals.{refuse, isAccepted, outOfBounds, badSize, badDirectory, offRuler, backward, hasId, noRoom, exceeds, timeTests, windowTests, roomTest, onRuler, OnRuler}
 
 -- ---- one link
 
@@ -142,14 +142,6 @@ unfolding hasId
 to-hasId i [] h = tt
 to-hasId i (x ∷ ts) h =
     to-nor (eqb (x .id) i) (hasId i ts) (not-T (eqb (x .id) i) (λ q. h x (here refl) (eqb→eq (x .id) i q))) (to-hasId i ts (λ u m. h u (there m)))
-
-pub of-inTooMany : (s : Scale) (t : Trip) → T (not (inTooMany s t)) → partitionsHolding s t ≤ mostPartitions
-unfolding inTooMany
-of-inTooMany s t h = nltb→le mostPartitions (partitionsHolding s t) h
-
-pub to-inTooMany : (s : Scale) (t : Trip) → partitionsHolding s t ≤ mostPartitions → T (not (inTooMany s t))
-unfolding inTooMany
-to-inTooMany s t h = le→nltb mostPartitions (partitionsHolding s t) h
 
 -- the entries of both halves have room
 pub record Room (s : Scale) (ts : List Trip) (n : Lengths) : Type 0 where

@@ -13,8 +13,7 @@ use Rattle.trip.specs.declared.Trip.{Trip}
 use Rattle.layout.specs.declared.Half.{Half}
 use Rattle.layout.specs.declared.Half.the-variants.{Originals, Replicas}
 use Rattle.layout.specs.Stored.{holdsTrip, isOriginal, isIn, subdivisionOf, isOf, belongs}
-use Rattle.layout.specs.Words.{partitions, levelOf, placeOf, slotTrips, slot, entriesBefore, entries}
-use Rattle.layout.specs.Refusals.{partitionsHolding}
+use Rattle.layout.specs.Words.{partitions, levelOf, placeOf, partitionsHolding, slotTrips, slot, entriesBefore, entries}
 use Rattle.layout.proofs.SlotMembers.{inSlot}
 
 -- ---- the four slots of a partition

@@ -97,9 +97,8 @@ of-remove s x i e =
 
 rows-alone : (s : Scale) (t : Trip) (ts : List Trip) → RowOk s ts t → RowsOk s [] ts → RowsOk s [] (t ∷ ts)
 rows-alone s t ts r w =
-    rows-more s [] t ts (record { fits = r .fits; fresh = λ u m. absurd (not-nil m); few = r .few }) (record {
+    rows-more s [] t ts (record { fits = r .fits; fresh = λ u m. absurd (not-nil m) }) (record {
       fits = w .fits;
-      few = w .few;
       distinct = w .distinct;
       fresh = λ u v m k e. elim k [ here q ↦ r .fresh u m (sym e ∙ ap (λ (z : Trip). z .id) q) | there n ↦ not-nil n ];
     })
@@ -148,7 +147,6 @@ without-table s i ts n w = record {
   directory = w .directory;
   rowsOk = record {
     fits = λ t m. w .rowsOk .fits t (of-without i ts t m .0);
-    few = λ t m. w .rowsOk .few t (of-without i ts t m .0);
     distinct = without-distinct i (w .rowsOk .distinct);
     fresh = λ t u m k. absurd (not-nil k);
   };
@@ -200,7 +198,7 @@ module _ (s : Scale) (fair : Fair s) (x : Index) (ts : List Trip) (given : Table
           good = given .good;
           few = omega (arith, h .not-full, same);
           directory = given .directory;
-          rowsOk = rows-alone s t ts (record { fits = r .fits; fresh = λ u m. r .fresh u (in-table u m); few = r .few }) (given .rowsOk);
+          rowsOk = rows-alone s t ts (record { fits = r .fits; fresh = λ u m. r .fresh u (in-table u m) }) (given .rowsOk);
           room = record {
             for-originals = rw (entries-same s (t ∷ ts) us added-distinct d (cons-in in-table) (cons-in table-in) Originals) (h .room .for-originals);
             for-replicas = rw (entries-same s (t ∷ ts) us added-distinct d (cons-in in-table) (cons-in table-in) Replicas) (h .room .for-replicas);

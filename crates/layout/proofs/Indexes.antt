@@ -92,7 +92,6 @@ module _ (s : Scale) (fair : Fair s) (ts : List Trip) (n : Lengths) (w : Table s
     directory = w .directory;
     rowsOk = record {
       fits = λ t m. w .rowsOk .fits t (back-in t m);
-      few = λ t m. w .rowsOk .few t (back-in t m);
       distinct = back-distinct;
       fresh = λ t u m k. absurd (not-nil k);
     };

@@ -3,8 +3,8 @@
 -- levels and partitions
 pub mod Partitions
 pub mod Numbers
-pub mod Few
 pub mod ByLevel
+pub mod MostPartitions
 pub mod RulerCells
 -- words, rows and slots
 pub mod Rows

@@ -15,16 +15,15 @@ use Rattle.lists.proofs.Joined.{joined-ext}
 use Rattle.lists.proofs.Sublists.{no-longer, as-long}
 use Rattle.lists.proofs.Sums.{length-joined, sum-tight}
 use Rattle.lists.proofs.Upto.{length-upTo, upTo-ext}
-use Rattle.ruler.specs.Ruler.{Scale, mostTrips, deepest}
+use Rattle.ruler.specs.Ruler.{Scale, mostTrips}
 use Rattle.ruler.proofs.Fair.{Fair}
 use Rattle.trip.specs.declared.Trip.{Trip}
 use Rattle.layout.specs.declared.Half.{Half}
 use Rattle.layout.specs.declared.Half.the-variants.{Originals, Replicas}
-use Rattle.layout.specs.Words.{entryWords, words, order, partitions, halfLength, directoryLength, subdivisionAt, slot, entriesBefore, entries, directoryHalf, arena, Index, lengthsOf, layout}
-use Rattle.layout.specs.Refusals.{partitionsHolding, tableOf, Fits}
+use Rattle.layout.specs.Words.{entryWords, words, order, partitions, halfLength, directoryLength, partitionsHolding, subdivisionAt, slot, entriesBefore, entries, directoryHalf, arena, Index, lengthsOf, layout}
+use Rattle.layout.specs.Refusals.{tableOf, Fits}
 use Rattle.layout.proofs.RowOrder.{Distinct, slot-order, slot-sorted}
 use Rattle.layout.proofs.SlotMembers.{of-slot, to-slot, slot-once, inSlot}
-use Rattle.layout.proofs.Few.{never-eleven}
 use Rattle.layout.proofs.Rows.{words-length}
 use Rattle.layout.proofs.Tables.{Table}
 use Rattle.layout.proofs.Indexes.{Indexed, table-again, indexed}
@@ -187,10 +186,10 @@ module _ (s : Scale) (x : Index) (ts : List Trip) where
       )
 
 -- words that pass are an index
-pub local-index : (s : Scale) → Fair s → (x : Index) (o p : ℕ → List Trip) → T (s .good) → s .m ≤ deepest
-    → length (x .directory) ≡ directoryLength (s .m) → Local s x o p → Indexed s x
+pub local-index : (s : Scale) → Fair s → (x : Index) (o p : ℕ → List Trip) → T (s .good) → length (x .directory) ≡ directoryLength (s .m)
+    → Local s x o p → Indexed s x
 unfolding lengthsOf entries entriesBefore
-local-index s fair x o p good small long w =
+local-index s fair x o p good long w =
     let ts = joined o (slotsOf s) in
     let c = w .proper in
     let a = laid-ext _ _ o (slot s Originals ts) (slotsOf s) (originals-are s fair o p c) (w .in-originals) in
@@ -201,7 +200,6 @@ local-index s fair x o p good small long w =
       directory = long;
       rowsOk = record {
         fits = all-fit s fair o p c;
-        few = λ t m. never-eleven s t small;
         distinct = c .distinct;
         fresh = λ t u m q. absurd (not-nil q);
       };

@@ -1,30 +1,25 @@
--- A table that build accepts has never more entries than the most trips in the most partitions each.
-use mathlib.Core.Path.{refl}
-use mathlib.Core.List.{List, [], _∷_, List·Memᴰ as Mem, List·Memᴰ·head as here, List·Memᴰ·tail as there}
-use Prim.Native.Nat.{ℕ, _+_, _*_, _≤_}
+-- How many entries there can be: no half has more than its trips have partitions, and none of them has more than the most.
+use Prim.Native.Nat.{_*_, _≤_}
+use mathlib.Core.List.{List}
 use native.Mathlib.Omega.{arith}
 use lib.ListN.{length}
 use Rattle.lists.specs.Lists.{sumOver}
-use Rattle.ruler.specs.Ruler.{Scale, mostTrips}
+use Rattle.lists.proofs.Bounded.{sum-most}
+use Rattle.ruler.specs.Ruler.{Scale, deepest, mostTrips}
 use Rattle.trip.specs.declared.Trip.{Trip}
 use Rattle.layout.specs.declared.Half.{Half}
 use Rattle.layout.specs.declared.Half.the-variants.{Originals, Replicas}
-use Rattle.layout.specs.Words.{entries, Lengths}
-use Rattle.layout.specs.Refusals.{mostPartitions, partitionsHolding}
-use Rattle.layout.proofs.Tables.{Table}
+use Rattle.layout.specs.Stored.{mostPartitions}
+use Rattle.layout.specs.Words.{partitionsHolding, entries}
+use Rattle.layout.proofs.MostPartitions.{deepest-most}
 use Rattle.layout.proofs.Counted.{all-entries}
 
-sum-most : (f : Trip → ℕ) (ts : List Trip) → ((t : Trip) → Mem t ts → f t ≤ mostPartitions) → sumOver f ts ≤ length ts * mostPartitions
-unfolding sumOver
-sum-most f [] h = omega arith
-sum-most f (t ∷ ts) h = omega (arith, h t (here refl), sum-most f ts (λ u m. h u (there m)))
+module _ (s : Scale) (deep : s .m ≤ deepest) (ts : List Trip) (few : length ts ≤ mostTrips) where
+  -- the partitions of all trips
+  pub all-most : sumOver (partitionsHolding s) ts ≤ mostTrips * mostPartitions deepest
+  all-most = omega (arith, few, sum-most (partitionsHolding s) (mostPartitions deepest) ts (λ t m. deepest-most s t deep))
 
-pub entries-most : (s : Scale) (h : Half) (ts : List Trip) (n : Lengths) → Table s ts n → length (entries s h ts) ≤ mostTrips * mostPartitions
-entries-most s h ts n w = go h
-  where
-    all : length (entries s Originals ts) + length (entries s Replicas ts) ≤ mostTrips * mostPartitions
-    all = omega (arith, all-entries s ts, sum-most (partitionsHolding s) ts (w .rowsOk .few), w .few)
-
-    go : (h : Half) → length (entries s h ts) ≤ mostTrips * mostPartitions
-    go Originals = omega (arith, all)
-    go Replicas = omega (arith, all)
+  -- the entries of a half
+  pub entries-most : (h : Half) → length (entries s h ts) ≤ mostTrips * mostPartitions deepest
+  entries-most Originals = omega (arith, all-entries s ts, all-most)
+  entries-most Replicas = omega (arith, all-entries s ts, all-most)

@@ -1,35 +1,27 @@
--- The tests of one row as the code goes through them: by the outcome o of its times, then by what the tests 6 and 11 say.
+-- The tests of one row as the code goes through them: by the outcome o of its times, then by what test 6 says.
 use mathlib.Core.Path.{_≡_, sym, ap, _∙_}
 use mathlib.Core.Bool.{Bool, true, false}
 use mathlib.Core.List.{List}
 use Prim.Native.Nat.{ℕ}
 use Rattle.ruler.specs.Ruler.{Scale}
 use Rattle.trip.specs.declared.Trip.{Trip}
-use Rattle.layout.specs.declared.Refusal.the-variants.{IdTaken, TooManyPartitions}
+use Rattle.layout.specs.declared.Refusal.the-variants.{IdTaken}
 use Rattle.layout.specs.declared.Outcome.{Outcome}
 use Rattle.layout.specs.declared.Outcome.the-variants.{Accepted}
-use Rattle.layout.specs.Refusals.{isAccepted, refuse, hasId, inTooMany, timeTests, rowTests, Fits}
-use Rattle.layout.proofs.Chains.{times-on}
-use Rattle.layout.proofs.Links.{andThen, then-refused, then-accepted, is-accepted, time-then}
+use Rattle.layout.specs.Refusals.{isAccepted, refuse, hasId, timeTests, rowTests}
+use Rattle.layout.proofs.Links.{andThen, then-refused, then-accepted, time-then}
 
 module _ (s : Scale) (there : List Trip) (t : Trip) (k : ℕ) (o : Outcome) (times : o ≡ timeTests s (t .start) (t .end) k Accepted) where
-  row-splits : rowTests s there t k Accepted
-      ≡ andThen o (refuse (hasId (t .id) there) IdTaken k (refuse (inTooMany s t) TooManyPartitions k Accepted))
+  row-splits : rowTests s there t k Accepted ≡ andThen o (refuse (hasId (t .id) there) IdTaken k Accepted)
   unfolding rowTests
   row-splits =
-      let rest = refuse (hasId (t .id) there) IdTaken k (refuse (inTooMany s t) TooManyPartitions k Accepted) in
+      let rest = refuse (hasId (t .id) there) IdTaken k Accepted in
       time-then s (t .start) (t .end) k rest ∙ ap (λ (a : Outcome). andThen a rest) (sym times)
 
   -- 4 or 5 is the row's
   pub row-untimely : isAccepted o ≡ false → o ≡ rowTests s there t k Accepted
   row-untimely e = sym (row-splits ∙ then-refused o _ e)
 
-  module _ (fine : isAccepted o ≡ true) where
-    -- past them the ruler has the trip
-    pub row-fits : Fits s t
-    row-fits = times-on s (t .start) (t .end) k Accepted (sym times ∙ is-accepted o fine)
-
-    -- and 6 and 11 decide
-    pub row-decided : (c d : Bool) → hasId (t .id) there ≡ c → inTooMany s t ≡ d
-        → refuse c IdTaken k (refuse d TooManyPartitions k Accepted) ≡ rowTests s there t k Accepted
-    row-decided c d p q = sym (row-splits ∙ then-accepted o _ fine ∙ rw (p, q))
+  -- past them 6 decides
+  pub row-decided : isAccepted o ≡ true → (c : Bool) → hasId (t .id) there ≡ c → refuse c IdTaken k Accepted ≡ rowTests s there t k Accepted
+  row-decided fine c p = sym (row-splits ∙ then-accepted o _ fine ∙ rw p)

@@ -5,7 +5,7 @@ use Prim.Native.Nat.{ℕ, zero, suc, _+_, _-_, _*_, _/_, _^_, _≤_, _<_}
 use native.Mathlib.Nat.{pow-suc, mul-le-mul-right, sub-self}
 use native.Mathlib.Decide.{le-ind, decLt}
 use native.Mathlib.Omega.{arith}
-use lib.Dec.{T, leb, eqb, leb→le, le→leb, eqb→eq, eqb-refl, T-not}
+use lib.Dec.{T, leb, eqb, leb→le, le→leb, eqb→eq, eqb-refl, T-not, not-T}
 use Rattle.lists.proofs.Tests.{of-and, to-and}
 use Rattle.ruler.specs.Ruler.{Scale, cellUp}
 use Rattle.ruler.proofs.CellLevels.{up-half, up-bottom, up-lt}
@@ -65,6 +65,10 @@ holds-within m (suc L) i a b t = of-and (within m (suc L) i a b) _ t .0
 pub holds-parent : (m L i a b : ℕ) → T (holds m (suc L) i a b) → T (within m L (i / 2) a b) → ⊥
 unfolding holds
 holds-parent m L i a b t w = T-not (within m L (i / 2) a b) (of-and (within m (suc L) i a b) (not (within m L (i / 2) a b)) t .1) w
+
+pub to-holds : (m L i a b : ℕ) → T (within m (suc L) i a b) → (T (within m L (i / 2) a b) → ⊥) → T (holds m (suc L) i a b)
+unfolding holds
+to-holds m L i a b t f = to-and (within m (suc L) i a b) (not (within m L (i / 2) a b)) t (not-T (within m L (i / 2) a b) f)
 
 -- no three partitions of a level hold one trip
 pub at-most-two : (m L i j k a b : ℕ) → L ≤ m → k < 2 ^ L → i < j → j < k → T (holds m L i a b) → T (holds m L j a b) → T (holds m L k a b) → ⊥

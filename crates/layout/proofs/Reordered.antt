@@ -90,7 +90,6 @@ module _ (s : Scale) (a b : List ℕ) (r : Reordered a b) (x : Index) (e : build
         directory = w .directory;
         rowsOk = record {
           fits = λ t m. w .rowsOk .fits t (to-a t m);
-          few = λ t m. w .rowsOk .few t (to-a t m);
           distinct = b-distinct;
           fresh = λ t u m k. absurd (not-nil k);
         };

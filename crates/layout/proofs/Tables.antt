@@ -10,18 +10,17 @@ use Rattle.trip.specs.declared.Trip.{Trip}
 use Rattle.layout.specs.declared.Outcome.{Outcome}
 use Rattle.layout.specs.declared.Outcome.the-variants.{Accepted}
 use Rattle.layout.specs.Words.{entryWords, words, rows, directoryLength, Lengths}
-use Rattle.layout.specs.Refusals.{partitionsHolding, mostPartitions, rowTests, firstBadRow, buildOutcome, Fits}
+use Rattle.layout.specs.Refusals.{rowTests, firstBadRow, buildOutcome, Fits}
 use Rattle.layout.proofs.RowOrder.{OtherId, Distinct}
 use Rattle.layout.proofs.Rows.{rows-words, words-length, whole, whole-rest, length-rows}
-use Rattle.layout.proofs.Chains.{Sized, Room, refuse-no, refuse-pass, of-outOfBounds, to-outOfBounds, of-badSize, to-badSize, of-badDirectory, to-badDirectory, times-pass, times-on, of-hasId, to-hasId, of-inTooMany, to-inTooMany, of-noRoom, to-noRoom}
+use Rattle.layout.proofs.Chains.{Sized, Room, refuse-no, refuse-pass, of-outOfBounds, to-outOfBounds, of-badSize, to-badSize, of-badDirectory, to-badDirectory, times-pass, times-on, of-hasId, to-hasId, of-noRoom, to-noRoom}
 
 -- ---- one row
 
--- a trip that passes tests 4, 5, 6 and 11 beside those that are there
+-- a trip that passes tests 4, 5 and 6 beside those that are there
 pub record RowOk (s : Scale) (beside : List Trip) (t : Trip) : Type 0 where
   pub fits : Fits s t
   pub fresh : (u : Trip) → Mem u beside → u .id ≡ t .id → ⊥
-  pub few : partitionsHolding s t ≤ mostPartitions
 
 pub of-rowTests : (s : Scale) (beside : List Trip) (t : Trip) (k : ℕ) (rest : Outcome) → rowTests s beside t k rest ≡ Accepted → RowOk s beside t
     × (rest ≡ Accepted)
@@ -29,22 +28,19 @@ unfolding rowTests
 of-rowTests s beside t k rest e =
     let fits = times-on s (t .start) (t .end) k _ e in
     let c = refuse-no _ _ k _ (sym (times-pass s (t .start) (t .end) k _ fits) ∙ e) in
-    let d = refuse-no _ _ k _ (c .1) in
-    (record { fits = fits; fresh = of-hasId (t .id) beside (c .0); few = of-inTooMany s t (d .0) }, d .1)
+    (record { fits = fits; fresh = of-hasId (t .id) beside (c .0) }, c .1)
 
 pub to-rowTests : (s : Scale) (beside : List Trip) (t : Trip) (k : ℕ) (rest : Outcome) → RowOk s beside t → rowTests s beside t k rest ≡ rest
 unfolding rowTests
 to-rowTests s beside t k rest w =
     times-pass s (t .start) (t .end) k _ (w .fits)
     ∙ refuse-pass _ _ k _ (to-hasId (t .id) beside (w .fresh))
-    ∙ refuse-pass _ _ k _ (to-inTooMany s t (w .few))
 
 -- ---- all rows
 
 -- what the rows' tests say of rows that stand after others
 pub record RowsOk (s : Scale) (earlier ts : List Trip) : Type 0 where
   pub fits : (t : Trip) → Mem t ts → Fits s t
-  pub few : (t : Trip) → Mem t ts → partitionsHolding s t ≤ mostPartitions
   pub distinct : Distinct ts
   pub fresh : (t u : Trip) → Mem t ts → Mem u earlier → u .id ≡ t .id → ⊥
 
@@ -52,7 +48,6 @@ pub rows-more : (s : Scale) (earlier : List Trip) (t : Trip) (ts : List Trip) �
     → RowsOk s earlier (t ∷ ts)
 rows-more s earlier t ts r w = record {
   fits = λ u m. elim m [ here e ↦ subst (Fits s) (sym e) (r .fits) | there q ↦ w .fits u q ];
-  few = λ u m. elim m [ here e ↦ subst (λ (v : Trip). partitionsHolding s v ≤ mostPartitions) (sym e) (r .few) | there q ↦ w .few u q ];
   distinct = more (λ u m. w .fresh u t m (here refl)) (w .distinct);
   fresh = λ u v m k. elim m [ here e ↦ λ q. r .fresh v k (q ∙ ap (λ (x : Trip). x .id) e) | there q ↦ w .fresh u v q (there k) ];
 }
@@ -64,12 +59,11 @@ pub distinct-tail : {t : Trip} {ts : List Trip} → Distinct (t ∷ ts) → Dist
 distinct-tail (more h d) = d
 
 rows-head : (s : Scale) (earlier : List Trip) (t : Trip) (ts : List Trip) → RowsOk s earlier (t ∷ ts) → RowOk s earlier t
-rows-head s earlier t ts w = record { fits = w .fits t (here refl); fresh = λ u m. w .fresh t u (here refl) m; few = w .few t (here refl) }
+rows-head s earlier t ts w = record { fits = w .fits t (here refl); fresh = λ u m. w .fresh t u (here refl) m }
 
 rows-tail : (s : Scale) (earlier : List Trip) (t : Trip) (ts : List Trip) → RowsOk s earlier (t ∷ ts) → RowsOk s (t ∷ earlier) ts
 rows-tail s earlier t ts w = record {
   fits = λ u m. w .fits u (there m);
-  few = λ u m. w .few u (there m);
   distinct = distinct-tail (w .distinct);
   fresh = λ u v m k. elim k [
     | here e ↦ λ q. distinct-head (w .distinct) u m (ap (λ (x : Trip). x .id) (sym e) ∙ q)
@@ -81,7 +75,7 @@ pub of-firstBadRow : (s : Scale) (k : ℕ) (earlier ts : List Trip) (rest : Outc
     → firstBadRow s k earlier ts rest ≡ Accepted → RowsOk s earlier ts × (rest ≡ Accepted)
 unfolding firstBadRow
 of-firstBadRow s k earlier [] rest e =
-    (record { fits = λ t m. absurd (not-nil m); few = λ t m. absurd (not-nil m); distinct = none; fresh = λ t u m n. absurd (not-nil m) }, e)
+    (record { fits = λ t m. absurd (not-nil m); distinct = none; fresh = λ t u m n. absurd (not-nil m) }, e)
 of-firstBadRow s k earlier (t ∷ ts) rest e =
     let a = of-rowTests s earlier t k _ e in
     let ih = of-firstBadRow s (suc k) (t ∷ earlier) ts rest (a .1) in

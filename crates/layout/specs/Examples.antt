@@ -18,8 +18,8 @@ use Rattle.layout.specs.declared.Subdivision.the-variants.{OIn, OAft, RI
 use Rattle.layout.specs.declared.Outcome.{Outcome}
 use Rattle.layout.specs.declared.Outcome.the-variants.{Accepted}
 use Rattle.layout.specs.Stored.{belongs}
-use Rattle.layout.specs.Words.{Index, words, directoryLength, layout}
-use Rattle.layout.specs.Refusals.{numberOf, detailOf, full, partitionsHolding, buildOutcome, windowTests, askOutcome}
+use Rattle.layout.specs.Words.{Index, words, directoryLength, partitionsHolding, layout}
+use Rattle.layout.specs.Refusals.{numberOf, detailOf, full, buildOutcome, windowTests, askOutcome}
 use Rattle.layout.specs.Calls.{buildOf, asked, askOf}
 
 -- ---- "Ruler w = 6, m = 4; trips 7 [21,38], 3 [20,20], 9 [0,63], 4 [39,40]."

@@ -1,12 +1,12 @@
--- Document 01, "Numbers of refusal", as definitions: the numbers, when each is given, and the order of each call. Every test is a
--- Bool and computes.
+-- Document 01, "Numbers of refusal", as definitions: the numbers, when each is given, and the order of each call; without number 11, which document
+-- 02 struck (T-06). Every test is a Bool and computes.
 use mathlib.Core.Path.{_≡_}
 use mathlib.Core.Bool.{Bool, true, false, not, _&&_, _||_}
 use mathlib.Core.List.{List, [], _∷_}
-use Prim.Native.Nat.{ℕ, suc, _+_, _*_, _/_, _%_, _≤_}
+use Prim.Native.Nat.{ℕ, suc, _*_, _/_, _%_, _≤_}
 use lib.Dec.{T, leb, ltb, eqb}
 use lib.ListN.{length, getD, take}
-use Rattle.lists.specs.Lists.{count, same}
+use Rattle.lists.specs.Lists.{same}
 use Rattle.ruler.specs.declared.Time.{Time}
 use Rattle.ruler.specs.Ruler.{Scale, mostTrips, before}
 use Rattle.trip.specs.declared.Trip.{Trip}
@@ -15,14 +15,14 @@ use Rattle.trip.specs.declared.Asking.{Asking}
 use Rattle.trip.specs.Relationships.{lastCode}
 use Rattle.layout.specs.declared.Half.the-variants.{Originals, Replicas}
 use Rattle.layout.specs.declared.Refusal.{Refusal}
-use Rattle.layout.specs.declared.Refusal.the-variants.{RulerOutOfBounds, TableSize, DirectoryLength, OffRuler, Backward, IdTaken, NoRoom, NotAnIndex, NoRelationship, NoSuchId, TooManyPartitions, NoSuchSlot}
+use Rattle.layout.specs.declared.Refusal.the-variants.{RulerOutOfBounds, TableSize, DirectoryLength, OffRuler, Backward, IdTaken, NoRoom, NotAnIndex, NoRelationship, NoSuchId, NoSuchSlot}
 use Rattle.layout.specs.declared.Outcome.{Outcome}
 use Rattle.layout.specs.declared.Outcome.the-variants.{Accepted, Refused}
-use Rattle.layout.specs.Stored.{partitionsAt, holdsTrip}
-use Rattle.layout.specs.Words.{entryWords, words, rows, partitions, directoryLength, levelOf, placeOf, entries, Index, Lengths, lengthsOf, layout}
+use Rattle.layout.specs.Stored.{partitionsAt}
+use Rattle.layout.specs.Words.{entryWords, words, rows, partitions, directoryLength, entries, Index, Lengths, lengthsOf, layout}
 use Rattle.layout.specs.Answers.{answerTo, lastSubdivision}
 
--- the column "No."
+-- the column "No." There is no 11: no trip could meet its test (the law `most-partitions`), and the number isn't used again.
 abbrev pub refusalNumber : Refusal → ℕ
 refusalNumber RulerOutOfBounds = 1
 refusalNumber TableSize = 2
@@ -34,7 +34,6 @@ refusalNumber NoRoom = 7
 refusalNumber NotAnIndex = 8
 refusalNumber NoRelationship = 9
 refusalNumber NoSuchId = 10
-refusalNumber TooManyPartitions = 11
 refusalNumber NoSuchSlot = 12
 
 -- "An accepted call returns number 0 and detail 0. A refusal returns its number and one detail (0 unless named)"
@@ -98,16 +97,6 @@ exceeds matches room = ltb room matches
 unfoldable pub noSuchCode : (code : ℕ) → Bool
 noSuchCode code = ltb lastCode code
 
--- 11 "a trip falls into more than 20 partitions (kept from the old exporter)"
-abbrev pub mostPartitions : ℕ
-mostPartitions = 20
-
-unfoldable pub partitionsHolding : Scale → Trip → ℕ
-partitionsHolding s t = count (λ p. holdsTrip s (levelOf (s .m) p) (placeOf (s .m) p) t) (partitions (s .m))
-
-unfoldable pub inTooMany : Scale → Trip → Bool
-inTooMany s t = ltb mostPartitions (partitionsHolding s t)
-
 -- 12 "level above m, partition past the level, or subdivision above 3"
 unfoldable pub noSuchSlot : Scale → (L i subdivision : ℕ) → Bool
 noSuchSlot s L i d = ltb (s .m) L || (leb (partitionsAt L) i || ltb lastSubdivision d)
@@ -135,14 +124,13 @@ fits s t = onRuler s (t .start) (t .end)
 abbrev pub Fits : Scale → Trip → Type 0
 Fits s t = OnRuler s (t .start) (t .end)
 
--- "within it 4, 5, 6, 11": one row, beside the trips that are there
+-- "within it 4, 5, 6": one row, beside the trips that are there
 unfoldable pub rowTests : Scale → (there : List Trip) → Trip → (detail : ℕ) → Outcome → Outcome
 rowTests s there t d rest =
     timeTests s (t .start) (t .end) d
-    (refuse (hasId (t .id) there) IdTaken d
-    (refuse (inTooMany s t) TooManyPartitions d rest))
+    (refuse (hasId (t .id) there) IdTaken d rest)
 
--- "then the first bad row decides, within it 4, 5, 6, 11, detail the row from 0": the rows from row k on, after the earlier ones
+-- "then the first bad row decides, within it 4, 5, 6, detail the row from 0": the rows from row k on, after the earlier ones
 unfoldable pub firstBadRow : Scale → (k : ℕ) → (earlier ts : List Trip) → Outcome → Outcome
 firstBadRow s k earlier [] rest = rest
 firstBadRow s k earlier (t ∷ ts) rest = rowTests s earlier t k (firstBadRow s (suc k) (t ∷ earlier) ts rest)
@@ -188,7 +176,7 @@ indexTests s x rest =
     (refuse (badDirectory s (length (x .directory))) DirectoryLength 0
     (refuse (not (isIndex s x)) NotAnIndex 0 rest))
 
--- "Add: 1, 3, 8, 2, 4, 5, 6, 11, 7."
+-- "Add: 1, 3, 8, 2, 4, 5, 6, 7."
 unfoldable pub addOutcome : Scale → Index → Trip → Outcome
 addOutcome s x t =
     indexTests s x

@@ -1,7 +1,7 @@
 -- Document 01, "Where a trip is stored", as definitions. Every test is a Bool and computes.
-use mathlib.Core.Bool.{Bool, true, false, not, _&&_}
+use mathlib.Core.Bool.{Bool, true, false, cond, not, _&&_}
 use Prim.Native.Nat.{ℕ, zero, suc, _+_, _-_, _*_, _/_, _^_}
-use lib.Dec.{leb, eqb}
+use lib.Dec.{leb, ltb, eqb}
 use Rattle.ruler.specs.Ruler.{Scale, cellUp}
 use Rattle.trip.specs.declared.Trip.{Trip}
 use Rattle.layout.specs.declared.Half.{Half}
@@ -32,6 +32,11 @@ holds m (suc L) i a b = within m (suc L) i a b && not (within m L (i / 2) a b)
 -- "Let a and b be the level-m cells of a trip's start and end."
 unfoldable pub holdsTrip : Scale → (L i : ℕ) → Trip → Bool
 holdsTrip s L i t = holds (s .m) L i (s .cell (t .start)) (s .cell (t .end))
+
+-- "It follows, and is proved, that a trip lies in at most two partitions of a level": the law `level-two`. In all levels together it lies in at most
+-- so many, 1 where m < 2 and else 2(m − 1): the law `most-partitions` (document 02, T-06).
+abbrev pub mostPartitions : (m : ℕ) → ℕ
+mostPartitions m = cond (ltb m 2) 1 (2 * (m - 1))
 
 -- "In a partition the trip is original (O) if the cell of its start at that level is i, else replica (R)."
 unfoldable pub isOriginal : Scale → (L i : ℕ) → Trip → Bool

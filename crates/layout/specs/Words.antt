@@ -6,7 +6,7 @@ use mathlib.Core.List.{List, [], _∷_, _++_, List·Memᴰ as Mem}
 use Prim.Native.Nat.{ℕ, zero, suc, _+_, _-_, _*_, _/_, _%_, _^_}
 use lib.Dec.{leb, ltb, eqb}
 use lib.ListN.{length, getD}
-use Rattle.lists.specs.Lists.{keep, sort, joined, upTo, padded}
+use Rattle.lists.specs.Lists.{count, keep, sort, joined, upTo, padded}
 use Rattle.ruler.specs.Ruler.{Scale, before, sameTime}
 use Rattle.trip.specs.declared.Trip.{Trip}
 use Rattle.trip.specs.Trips.{tripOf}
@@ -14,7 +14,7 @@ use Rattle.layout.specs.declared.Half.{Half}
 use Rattle.layout.specs.declared.Half.the-variants.{Originals, Replicas}
 use Rattle.layout.specs.declared.Subdivision.{Subdivision}
 use Rattle.layout.specs.declared.Subdivision.the-variants.{OIn, OAft, RIn, RAft}
-use Rattle.layout.specs.Stored.{belongs, subdivisionOf}
+use Rattle.layout.specs.Stored.{holdsTrip, belongs, subdivisionOf}
 
 -- "A table row and an index entry are three words: id, start, end." (Here alone: how many words, which, and how they are read.)
 abbrev pub entryWords : ℕ
@@ -62,6 +62,10 @@ levelOf (suc L) p = cond (leb (partitionNumber (suc L) 0) p) (suc L) (levelOf L 
 
 unfoldable pub placeOf : (m p : ℕ) → ℕ
 placeOf m p = p - partitionNumber (levelOf m p) 0
+
+-- as many partitions as hold a trip, of the levels 0 to m
+unfoldable pub partitionsHolding : Scale → Trip → ℕ
+partitionsHolding s t = count (λ p. holdsTrip s (levelOf (s .m) p) (placeOf (s .m) p) t) (partitions (s .m))
 
 -- "its "in" slot is 2p and its "aft" slot 2p + 1": so slot k is one of partition k / 2, and an "aft" slot where k is odd
 unfoldable pub slotNumber : (L i : ℕ) → (aft : Bool) → ℕ

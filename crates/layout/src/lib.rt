@@ -8,7 +8,7 @@ ghost use mathlib.Core.Bool.{true};
 ghost use Rattle.ruler.specs.Ruler.{inBounds, scale};
 ghost use Rattle.layout.specs.Stored.{subdivisionOf};
 ghost use Rattle.layout.specs.Words.{entryWords};
-ghost use Rattle.layout.specs.Refusals.{mostPartitions, refusalNumber, numberOf, detailOf, isAccepted, timeTests};
+ghost use Rattle.layout.specs.Refusals.{refusalNumber, numberOf, detailOf, isAccepted, timeTests};
 
 // A directory half with its arena.
 pub enum Half {
@@ -23,7 +23,7 @@ pub enum Subdivision {
     RAft,
 }
 
-// Why a call is refused, in the order of the paper's numbers, from 1 on.
+// Why a call is refused, in the order of the paper's numbers: 1 to 10, and 12.
 pub enum Refusal {
     RulerOutOfBounds,
     TableSize,
@@ -35,7 +35,6 @@ pub enum Refusal {
     NotAnIndex,
     NoRelationship,
     NoSuchId,
-    TooManyPartitions,
     NoSuchSlot,
 }
 
@@ -48,20 +47,11 @@ pub enum Outcome {
 // The words of a table row and of an index entry.
 pub const ENTRY_WORDS: usize = 3;
 
-// A trip that falls into more partitions than these is refused.
-pub const MOST_PARTITIONS: u32 = 20;
-
-// The constants of the code are those of the definitions.
+// The constant of the code is that of the definitions.
 pub fn entry_words() -> usize
     ensures { λ r. ⌜ r ≡ entryWords ⌝ }
 {
     ENTRY_WORDS
-}
-
-pub fn most_partitions() -> u32
-    ensures { λ r. ⌜ r ≡ mostPartitions ⌝ }
-{
-    MOST_PARTITIONS
 }
 
 // The subdivision of a half's "in" or "aft" entries.
@@ -99,7 +89,6 @@ pub fn refusal_number(refusal: Refusal) -> u32
         Refusal::NotAnIndex => 8,
         Refusal::NoRelationship => 9,
         Refusal::NoSuchId => 10,
-        Refusal::TooManyPartitions => 11,
         Refusal::NoSuchSlot => 12,
     }
 }

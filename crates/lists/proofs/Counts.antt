@@ -3,6 +3,7 @@ use mathlib.Core.Path.{_≡_, refl, sym, ap₂}
 use mathlib.Core.Bool.{Bool, true, false}
 use Prim.Native.Nat.{ℕ, zero, suc, _+_, _≤_, _<_}
 use native.Mathlib.Nat.{add-zero, add-suc}
+use native.Mathlib.Decide.{ℕ-discrete}
 use native.Mathlib.Omega.{arith}
 use lib.Arith.{le-zero}
 use lib.Dec.{T}
@@ -19,15 +20,40 @@ last-one g (suc n) c h = go (g n) refl (last-one g n c)
     go true e ih = let q : suc c ≤ suc (count g n) = rw e at h in (n, omega arith, rw e tt, omega arith)
     go false e ih = let w = ih (rw e at h) in (w .0, omega arith, w .2, w .3)
 
+-- where two are counted, here they are
+two-counted : (g : ℕ → Bool) (n : ℕ) → 2 ≤ count g n → (i : ℕ) × (j : ℕ) × (i < j) × (j < n) × T (g i) × T (g j)
+two-counted g n q =
+    let y = last-one g n 1 q in
+    let x = last-one g (y .0) 0 (y .3) in
+    (x .0, y .0, x .1, y .1, x .2, y .2)
+
+le-of-not-lt : {a b : ℕ} → (b < a → ⊥) → a ≤ b
+le-of-not-lt f = omega (arith, f)
+
+-- no two pass: one at the most; no three: two
+pub count-single : (g : ℕ → Bool) (n : ℕ) → ((i j : ℕ) → i < j → j < n → T (g i) → T (g j) → ⊥) → count g n ≤ 1
+count-single g n h = le-of-not-lt (λ q. let w = two-counted g n q in h (w .0) (w .1) (w .2) (w .3) (w .4) (w .5))
+
 pub count-two : (g : ℕ → Bool) (n : ℕ) → ((i j k : ℕ) → i < j → j < k → k < n → T (g i) → T (g j) → T (g k) → ⊥) → count g n ≤ 2
 count-two g n h = le-of-not-lt (λ q.
     let z = last-one g n 2 q in
-    let y = last-one g (z .0) 1 (z .3) in
-    let x = last-one g (y .0) 0 (y .3) in
-    h (x .0) (y .0) (z .0) (x .1) (y .1) (z .1) (x .2) (y .2) (z .2))
+    let w = two-counted g (z .0) (z .3) in
+    h (w .0) (w .1) (z .0) (w .2) (w .3) (z .1) (w .4) (w .5) (z .2))
+
+-- two that pass: at least two
+passing : (g : ℕ → Bool) (n i : ℕ) → i < n → T (g i) → suc (count g i) ≤ count g n
+unfolding count
+passing g zero i l t = absurd (omega arith)
+passing g (suc n) i l t = go (ℕ-discrete i n) (g n) refl (passing g n i)
   where
-    le-of-not-lt : {a b : ℕ} → (b < a → ⊥) → a ≤ b
-    le-of-not-lt f = omega (arith, f)
+    go : Dec (i ≡ n) → (b : Bool) → g n ≡ b → (i < n → T (g i) → suc (count g i) ≤ count g n) → suc (count g i) ≤ oneMore b (count g n)
+    go (yes e) true p ih = rw e (omega arith)
+    go (yes e) false p ih = absurd (rw (e, p) at t)
+    go (no e) true p ih = omega (arith, ih (omega arith) t)
+    go (no e) false p ih = ih (omega arith) t
+
+pub count-pair : (g : ℕ → Bool) (n i j : ℕ) → i < j → j < n → T (g i) → T (g j) → 2 ≤ count g n
+count-pair g n i j ij jn s t = omega (arith, passing g j i ij s, passing g n j jn t)
 
 pub count-add : (g : ℕ → Bool) (n k : ℕ) → count g (n + k) ≡ count g n + count (λ i. g (n + i)) k
 unfolding count

@@ -77,7 +77,7 @@ module _ (s : Scale) (fair : Fair s) (table : List ℕ) (x : Index) (g : IndexOf
       to-add s y t (record {
         is-index = given-indexed s fair (words rest) y gy;
         not-full = omega (arith, without-shorter ts u m, w .few, many);
-        rowOk = record { fits = row .fits; fresh = λ v k. row .fresh v (again v k); few = row .few };
+        rowOk = record { fits = row .fits; fresh = λ v k. row .fresh v (again v k) };
         room = rw (l .lengths) (record {
           for-originals = le-trans (mul-le-mul-left entryWords (kept Originals)) (w .room .for-originals);
           for-replicas = le-trans (mul-le-mul-left entryWords (kept Replicas)) (w .room .for-replicas);

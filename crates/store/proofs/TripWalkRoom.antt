@@ -16,11 +16,8 @@ use Rattle.lists.proofs.Sums.{sumTo, exchange}
 use Rattle.ruler.specs.Ruler.{Scale}
 use Rattle.trip.specs.declared.Trip.{Trip}
 use Rattle.layout.specs.declared.Half.{Half}
-use Rattle.layout.specs.declared.Half.the-variants.{Originals, Replicas}
 use Rattle.layout.specs.Words.{partitions, slotTrips, slot, entriesBefore, entries}
-use Rattle.layout.specs.Refusals.{partitionsHolding}
 use Rattle.store.specs.TripWalk.{slotsOfTrip, Below, none, also}
-use Rattle.layout.proofs.Counted.{all-entries}
 use Rattle.store.proofs.TripWalk.{those, walk-once, walk-below}
 use Rattle.layout.proofs.SlotMembers.{inSlot}
 
@@ -67,9 +64,3 @@ module _ (s : Scale) (t : Trip) (inside : s .cell (t .end) < 2 ^ s .m) where
       let n = 2 * partitions (s .m) in
       joined-more (slot s h ts) (slot s h (t ∷ ts)) (λ k. length (those k (slotsOfTrip s h t))) n (slot-more h ts)
       ∙ ap (λ (i : ℕ). length (joined (slot s h ts) n) + i) (walk-counted (walk-below s h t inside))
-
-  -- the walks of both halves are as long as the partitions that hold the trip are many
-  pub held-many : length (slotsOfTrip s Originals t) + length (slotsOfTrip s Replicas t) ≡ partitionsHolding s t
-  unfolding sumOver
-  held-many =
-      omega (arith, all-entries s [], all-entries s (t ∷ []), entries-added Originals [], entries-added Replicas [])

@@ -3,13 +3,14 @@ use mathlib.Core.List.{List, [], _∷_, _++_}
 use Prim.Native.Nat.{ℕ, zero, suc, _+_, _-_, _*_}
 use lib.ListN.{take, drop, replicate}
 use lib.Seq.{slice}
-use Rattle.ruler.specs.Ruler.{mostTrips}
+use Rattle.ruler.specs.Ruler.{deepest, mostTrips}
+use Rattle.layout.specs.Stored.{mostPartitions}
 use Rattle.layout.specs.Words.{entryWords}
-use Rattle.layout.specs.Refusals.{mostPartitions}
 
--- the most entries that a half has: each trip lies in few partitions (the law `entries-fit` says how far this is from a word's end)
+-- the most entries that a half has: those of the most trips, each in the most partitions of the deepest ruler (the law `entries-most`; how far this
+-- is from a word's end says `entries-fit`)
 abbrev pub mostEntries : ℕ
-mostEntries = mostTrips * mostPartitions
+mostEntries = mostTrips * mostPartitions deepest
 
 -- the words, with f applied to those from index i on
 abbrev pub from : ℕ → (List ℕ → List ℕ) → List ℕ → List ℕ

@@ -7,8 +7,8 @@ ghost use mathlib.Core.Path.{_≡_};
 ghost use mathlib.Core.Bool.{true};
 ghost use Prim.Native.Nat.{_+_, _-_, _*_, _/_, _≤_};
 ghost use Rattle.ruler.specs.Ruler.{deepest, inBounds, scale};
-ghost use Rattle.layout.specs.Words.{directoryLength};
-ghost use Rattle.layout.specs.Refusals.{partitionsHolding, Fits};
+ghost use Rattle.layout.specs.Words.{directoryLength, partitionsHolding};
+ghost use Rattle.layout.specs.Refusals.{Fits};
 
 // Of the partitions of a level that lie in a trip's cells, from one on, up to another that is not of them, those whose parent does not.
 fn held_here(from: Cell, to: Cell) -> u32

@@ -2,7 +2,7 @@
 use mathlib.Core.Path.{_≡_, refl, sym, ap, _∙_}
 use mathlib.Core.Bool.{true, _&&_}
 use mathlib.Core.List.{List, List·Memᴰ as Mem}
-use Prim.Native.Nat.{ℕ, _+_, _-_, _*_, _≤_, _<_}
+use Prim.Native.Nat.{ℕ, _+_, _-_, _*_, _<_}
 use native.Mathlib.Omega.{arith}
 use lib.Dec.{T, leb, eqb, leb→le, le→leb, eqb→eq, eqb-refl}
 use lib.ListN.{length, take, drop, length-drop}
@@ -12,17 +12,17 @@ use Rattle.lists.proofs.Tests.{of-and, to-and, to-T}
 use Rattle.lists.proofs.Members.{In, of-joined, to-joined}
 use Rattle.lists.proofs.Joined.{joined-ext}
 use Rattle.ruler.specs.declared.Ruler.{Ruler}
-use Rattle.ruler.specs.Ruler.{Scale, mostTrips, deepest, inBounds, scale}
+use Rattle.ruler.specs.Ruler.{Scale, mostTrips, inBounds, scale}
 use Rattle.ruler.proofs.Fair.{Fair, scale-good}
 use Rattle.trip.specs.declared.Trip.{Trip}
 use Rattle.trip.specs.Trips.{sameTrip}
 use Rattle.trip.proofs.SameWords.{of-same, same-refl}
 use Rattle.layout.specs.declared.Half.{Half}
 use Rattle.layout.specs.declared.Half.the-variants.{Originals, Replicas}
-use Rattle.layout.specs.Words.{order, partitions, halfLength, directoryLength, subdivisionAt, Index}
-use Rattle.layout.specs.Refusals.{partitionsHolding, isIndex, fits}
+use Rattle.layout.specs.Words.{order, partitions, halfLength, directoryLength, partitionsHolding, subdivisionAt, Index}
+use Rattle.layout.specs.Refusals.{isIndex, fits}
 use Rattle.layout.specs.Calls.{index}
-use Rattle.layout.proofs.RulerCells.{fair-ruler, deep-ruler}
+use Rattle.layout.proofs.RulerCells.{fair-ruler}
 use Rattle.layout.proofs.RowOrder.{slot-order}
 use Rattle.layout.proofs.Indexes.{of-isIndex, to-isIndex}
 use Rattle.layout.proofs.SlotMembers.{inSlot}
@@ -161,8 +161,7 @@ module _ (s : Scale) (fair : Fair s) (o orig r repl : List ℕ) where
 
 -- ---- the law
 
-module _ (s : Scale) (fair : Fair s) (x : Index) (good : T (s .good)) (small : s .m ≤ deepest)
-    (long : length (x .directory) ≡ directoryLength (s .m)) where
+module _ (s : Scale) (fair : Fair s) (x : Index) (good : T (s .good)) (long : length (x .directory) ≡ directoryLength (s .m)) where
   o-length : length (originalsHalf s (x .directory)) ≡ slotsOf s + 1
   unfolding originalsHalf halfLength directoryLength
   o-length = length-take-le (2 * partitions (s .m) + 1) (x .directory) (omega arith)
@@ -181,7 +180,7 @@ module _ (s : Scale) (fair : Fair s) (x : Index) (good : T (s .good)) (small : s
       to-locally s fair o (x .originals) r (x .replicas) _ _ (w .in-originals) (w .in-replicas) (w .proper))
       (λ t.
       let w = of-locally s fair o (x .originals) r (x .replicas) o-length r-length t in
-      to-isIndex s x (local-index s fair x _ _ good small long (record { in-originals = w .0; in-replicas = w .1; proper = w .2 })))
+      to-isIndex s x (local-index s fair x _ _ good long (record { in-originals = w .0; in-replicas = w .1; proper = w .2 })))
 
 -- the same of a ruler, for the two halves as the code lends them
 module _ (r : Ruler) (d : List ℕ) (good : inBounds (r .numbers) ≡ true) (long : length d ≡ directoryLength (scale r .m)) {h : ℕ}
@@ -197,4 +196,4 @@ module _ (r : Ruler) (d : List ℕ) (good : inBounds (r .numbers) ≡ true) (lon
   unfolding originalsHalf replicasHalf
   halves-index orig repl =
       rw (first-lent d h (length d) both refl, second-lent d h (length d) both refl, half)
-      (locally-index (scale r) (fair-ruler r good) (index d orig repl) (to-T (scale-good (r .numbers) ∙ good)) (deep-ruler r good) long)
+      (locally-index (scale r) (fair-ruler r good) (index d orig repl) (to-T (scale-good (r .numbers) ∙ good)) long)

@@ -12,8 +12,8 @@ use Rattle.layout.specs.declared.Half.{Half}
 use Rattle.layout.specs.declared.Half.the-variants.{Originals, Replicas}
 use Rattle.layout.specs.declared.Subdivision.{Subdivision}
 use Rattle.layout.specs.Stored.{within, isIn, belongs, subdivisionOf}
-use Rattle.layout.specs.Words.{entryWords, rows, order, levelOf, placeOf, slotNumber}
-use Rattle.layout.specs.Refusals.{partitionsHolding, fits}
+use Rattle.layout.specs.Words.{entryWords, rows, order, levelOf, placeOf, partitionsHolding, slotNumber}
+use Rattle.layout.specs.Refusals.{fits}
 use Rattle.store.specs.Halves.{total}
 use Rattle.store.specs.Parts.{partWords}
 use Rattle.store.specs.Ids.{idsDiffer}

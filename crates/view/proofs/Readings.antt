@@ -9,21 +9,22 @@ use lib.ListN.{length, getD, take, drop, length-append}
 use borrow.Author.Tests.{leb-true}
 use Rattle.lists.specs.Lists.{joined}
 use Rattle.lists.proofs.Upto.{upTo-ext}
-use Rattle.ruler.specs.Ruler.{Scale, deepest, mostTrips}
+use Rattle.ruler.specs.Ruler.{Scale, deepest}
 use Rattle.trip.specs.declared.Trip.{Trip}
 use Rattle.layout.specs.declared.Half.{Half}
 use Rattle.layout.specs.declared.Half.the-variants.{Originals, Replicas}
 use Rattle.layout.specs.declared.Subdivision.{Subdivision}
 use Rattle.layout.specs.declared.Subdivision.the-variants.{OIn, OAft, RIn, RAft}
 use Rattle.layout.specs.Stored.{partitionsAt}
-use Rattle.layout.specs.Words.{entryWords, words, partitions, halfLength, slotNumber, slotTrips, slot, Index, lengthsOf}
-use Rattle.layout.specs.Refusals.{mostPartitions, tableOf}
+use Rattle.layout.specs.Words.{entryWords, words, partitions, halfLength, slotNumber, slotTrips, slot, Index}
+use Rattle.layout.specs.Refusals.{tableOf}
 use Rattle.layout.specs.Answers.{halfOf, isAft, levelCount, levelRow, census, runWords, runFrom}
 use Rattle.layout.proofs.Subdivisions.{of-half-and-side}
 use Rattle.layout.proofs.Rows.{words-length}
 use Rattle.layout.proofs.Indexes.{Indexed}
 use Rattle.layout.proofs.MostEntries.{entries-most}
 use Rattle.layout.proofs.ByDirectory.{slot-numbered, slot-inside, slots-apart, before-more, before-le, LaidFrom, next-word, originals-laid, replicas-laid}
+use Rattle.store.specs.Passes.{mostEntries}
 use Rattle.store.specs.Parts.{arenaOf, partWords, PartThere}
 use Rattle.store.proofs.Parts.{laid-slot-there, laid-slot}
 use Rattle.view.specs.Directory.{halfFrom, slotAt, everySecond, countOf, rowOf, rowsOf, Halves}
@@ -92,10 +93,10 @@ module _ (s : Scale) (x : Index) (w : Indexed s x) where
     unfolding partWords
     run-part = rw (← run-length, ← run-from-read) run-read
 
-    -- a run ends within the entries of the most trips in the most partitions each
-    pub run-few : runFrom s trips L i d + length (runWords s trips L i d) ≤ entryWords * (mostTrips * mostPartitions)
+    -- a run ends within the most entries
+    pub run-few : s .m ≤ deepest → runFrom s trips L i d + length (runWords s trips L i d) ≤ entryWords * mostEntries
     unfolding runFrom runWords
-    run-few =
+    run-few most =
         let h = halfOf d in
         let k = slotNumber L i (isAft d) in
         omega (
@@ -104,7 +105,7 @@ module _ (s : Scale) (x : Index) (w : Indexed s x) where
           ap length slot-is,
           words-length (slotTrips s d L i trips),
           before-le s h trips (k + 1) (omega (arith, inside)),
-          entries-most s h trips (lengthsOf x) (w .table),
+          entries-most s most trips (w .table .few) h,
         )
 
   -- ---- the census

@@ -7,7 +7,8 @@ use native.Mathlib.Omega.{arith}
 use lib.ListN.{length, getD, take, drop}
 use Rattle.ruler.specs.declared.Numbers.{Numbers}
 use Rattle.ruler.specs.declared.Ruler.{Ruler}
-use Rattle.ruler.specs.Ruler.{Scale, deepest, mostTrips, scaleOf, scale}
+use Rattle.ruler.specs.Ruler.{Scale, deepest, scaleOf, scale}
+use Rattle.ruler.proofs.Fair.{scale-good, scale-m}
 use Rattle.layout.specs.declared.Half.{Half}
 use Rattle.layout.specs.declared.Subdivision.{Subdivision}
 use Rattle.layout.specs.declared.Refusal.{Refusal}
@@ -16,12 +17,13 @@ use Rattle.layout.specs.declared.Outcome.{Outcome}
 use Rattle.layout.specs.declared.Outcome.the-variants.{Accepted, Refused}
 use Rattle.layout.specs.Words.{entryWords, Index}
 use Rattle.layout.specs.Answers.{halfOf, subdivisionNumbered, runWords, runFrom}
-use Rattle.layout.specs.Refusals.{mostPartitions, refuse, noSuchSlot, tableOf, runOutcome}
+use Rattle.layout.specs.Refusals.{refuse, noSuchSlot, tableOf, runOutcome}
 use Rattle.layout.specs.Calls.{ifAccepted, censusOf, runOf, runFromOf}
 use Rattle.layout.proofs.Indexes.{Indexed}
 use Rattle.layout.proofs.Checked.{checked}
 use Rattle.layout.proofs.RulerCells.{deep-ruler}
 use Rattle.layout.proofs.Viewed.{census-accepted, census-refused, run-unchecked, run-checked, Runnable, of-run, run-accepted, run-refused, run-from-accepted, run-from-refused}
+use Rattle.store.specs.Passes.{mostEntries}
 use Rattle.store.specs.Parts.{arenaOf}
 use Rattle.verify.specs.declared.Opened.{Opened}
 use Rattle.verify.specs.declared.Opened.the-variants.{Index as Opens, Refused as Shuts}
@@ -131,8 +133,9 @@ module _ (s : Scale) (x : Index) (L i d : ℕ) where
         rw (f, e, q) (run-cases (λ from run. take (length run) (drop from run-arena) ≡ run) refl
         (λ t. run-part s x (t .is-index) L i (subdivisionNumbered d) (t .deep) (t .there)))
 
-  -- 32 bits tell where it ends
-  pub run-ends : runFromOf s x L i d + length (runOf s x L i d) ≤ entryWords * (mostTrips * mostPartitions)
-  run-ends =
-      run-cases (λ from run. from + length run ≤ entryWords * (mostTrips * mostPartitions)) (omega arith)
-      (λ t. run-few s x (t .is-index) L i (subdivisionNumbered d) (t .deep) (t .there))
+-- 32 bits tell where it ends
+pub run-ends : (n : Numbers) (x : Index) (L i d : ℕ) → runFromOf (scaleOf n) x L i d + length (runOf (scaleOf n) x L i d) ≤ entryWords * mostEntries
+run-ends n x L i d =
+    run-cases (scaleOf n) x L i d (λ from run. from + length run ≤ entryWords * mostEntries) (omega arith)
+    (λ t. run-few (scaleOf n) x (t .is-index) L i (subdivisionNumbered d) (t .deep) (t .there)
+    (scale-m n (rw (scale-good n) at (t .is-index .table .good))))

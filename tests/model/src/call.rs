@@ -10,7 +10,7 @@ use crate::model::index::{Index, Reply};
 use crate::model::trip::Trip;
 use crate::model::view::{census, run};
 
-/// The numbers that each call can answer. Refusal 11 can't be met.
+/// The numbers that each call can answer.
 pub const NUMBERS: [(&str, &[u32]); 7] = [
     ("build", &[0, 1, 2, 3, 4, 5, 6, 7]),
     ("check", &[0, 1, 3, 8]),

@@ -38,7 +38,7 @@ words s = index (s .args .directory .now) (s .args .originals .now) (s .args .re
 
 -- what the requires says of the words
 in-index : (s : tie.Start) → Shown (scale (s .args .ruler)) (words s)
-in-index s = shown _ _ (checked _ _ (s .pre .1))
+in-index s = shown _ _ (checked _ _ (s .pre .1)) (deep-ruler (s .args .ruler) (s .pre .0))
 
 bottom-requires : tie.Need-bottom-requires
 bottom-requires c κs = search needs

@@ -36,7 +36,7 @@ add-to c =
       arith,
       ap (λ (k : Place). k .from) p,
       ap (λ (k : Place). k .length) p,
-      run-ends (scaleOf (a .numbers)) x (a .level) (a .partition) (a .subdivision),
+      run-ends (a .numbers) x (a .level) (a .partition) (a .subdivision),
     )
 
 mul-result : tie.Need-mul-result
@@ -48,7 +48,7 @@ mul-result c =
       arith,
       ap (λ (k : Place). k .from) p,
       ap (λ (k : Place). k .length) p,
-      run-ends (scaleOf (a .numbers)) x (a .level) (a .partition) (a .subdivision),
+      run-ends (a .numbers) x (a .level) (a .partition) (a .subdivision),
     )
 
 sub-result : tie.Need-sub-result

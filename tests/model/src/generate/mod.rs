@@ -8,6 +8,7 @@ mod damage_slots;
 mod damaged;
 mod edits;
 mod lines;
+mod longest;
 mod made;
 pub mod pieces;
 mod questions;
@@ -26,6 +27,7 @@ use crate::random::Random;
 use std::collections::VecDeque;
 
 pub use self::lines::bad_probe_line;
+pub use self::longest::ENTRIES as ENTRIES_OF_THE_LONGEST;
 pub use self::made::{made, Made};
 pub use self::size::{Size, FULL, SMALL};
 pub use self::tables::trips;
@@ -36,7 +38,7 @@ const MOST_TABLE: usize = 12_300;
 const MOST_REPLICAS: usize = 60_000;
 const MOST_ANSWERS: usize = 4_100;
 
-/// The first big scene comes early, so that a short run meets one; the others are rare, as they are slow.
+/// The first big scenes come early, so that a short run meets them; the others are rare, as they are slow.
 const FIRST_BIG: usize = 400;
 const NEXT_BIG: usize = 2_500;
 
@@ -90,7 +92,9 @@ impl Calls {
     fn scene(&mut self) -> Vec<Call> {
         if self.size.big && self.given >= self.next_big {
             self.next_big = self.given + NEXT_BIG;
-            return big::scene(&mut self.random);
+            let mut calls = big::scene(&mut self.random);
+            calls.extend(longest::scene(&mut self.random));
+            return calls;
         }
         // Each kind once at first, so that a short run has them all.
         let scene = if self.scenes < SCENES.len() { SCENES[self.scenes].0 } else { self.weighted_scene() };

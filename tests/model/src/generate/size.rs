@@ -10,7 +10,7 @@ pub struct Size {
     pub spare: usize,
     /// The most edits in one history.
     pub edits: usize,
-    /// Whether tables of 4,096 trips are drawn at times.
+    /// Whether tables of 4,096 trips, and of the longest trips, are drawn at times.
     pub big: bool,
 }
 

@@ -56,6 +56,16 @@ pub fn spread_trips(random: &mut Random, w: u32, m: u32, many: usize) -> Vec<Tri
     found
 }
 
+/// Trips that lie in as many partitions as can be.
+pub fn longest_trips(random: &mut Random, w: u32, m: u32, many: usize) -> Vec<Trip> {
+    let mut found = Vec::new();
+    for id in ids(random, many) {
+        let (start, end) = crowded(random, w, m, widest_crowd(m));
+        found.push(Trip { id, start, end });
+    }
+    found
+}
+
 /// Ids without a repetition, in several manners: rising, falling, mixed, any words, and the extremes.
 pub fn ids(random: &mut Random, many: usize) -> Vec<u32> {
     let manner = random.below(5);

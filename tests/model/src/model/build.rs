@@ -1,14 +1,10 @@
-//! Build: 1, 2, 3; then the first bad row decides, within it 4, 5, 6, 11, detail the row; then 7.
+//! Build: 1, 2, 3; then the first bad row decides, within it 4, 5, 6, detail the row; then 7.
 
 use super::index::{directory_length, refusal, refusal_with, Index, Reply, ACCEPTED};
 use super::layout::lay_out;
-use super::places::places;
 use super::ruler::{in_bounds, on_ruler, MOST_TRIPS};
 use super::trip::{trips_of, Trip, ENTRY_WORDS};
 use crate::faults::{planted, Fault};
-
-/// Refusal 11's bound, kept from the old exporter. No ruler can pass it; the test stands all the same.
-const MOST_PLACES: usize = 20;
 
 pub fn build(w: u32, m: u32, table: &[u32], index: &mut Index) -> Reply {
     if !in_bounds(w, m) {
@@ -23,7 +19,7 @@ pub fn build(w: u32, m: u32, table: &[u32], index: &mut Index) -> Reply {
     let trips = trips_of(table);
     let mut bad = Vec::new();
     for (row, trip) in trips.iter().enumerate() {
-        if let Some(number) = row_refusal(w, m, trip, &trips[..row]) {
+        if let Some(number) = row_refusal(w, trip, &trips[..row]) {
             bad.push(refusal_with(number, row));
         }
     }
@@ -39,16 +35,13 @@ pub fn build(w: u32, m: u32, table: &[u32], index: &mut Index) -> Reply {
     }
 }
 
-/// What is wrong with one trip beside those that came before it: 4, 5, 6, 11 in this order.
-pub fn row_refusal(w: u32, m: u32, trip: &Trip, others: &[Trip]) -> Option<u32> {
+/// What is wrong with one trip beside those that came before it: 4, 5, 6 in this order.
+pub fn row_refusal(w: u32, trip: &Trip, others: &[Trip]) -> Option<u32> {
     if let Some(number) = times_refusal(w, trip.start, trip.end) {
         return Some(number);
     }
     if others.iter().any(|other| other.id == trip.id) {
         return Some(6);
-    }
-    if places(w, m, trip).len() > MOST_PLACES {
-        return Some(11);
     }
     None
 }

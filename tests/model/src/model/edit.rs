@@ -8,7 +8,7 @@ use super::ruler::MOST_TRIPS;
 use super::trip::Trip;
 use crate::faults::{planted, Fault};
 
-/// Add: 1, 3, 8, 2, 4, 5, 6, 11, 7.
+/// Add: 1, 3, 8, 2, 4, 5, 6, 7.
 pub fn add(w: u32, m: u32, trip: Trip, index: &mut Index) -> Reply {
     let mut trips = match table_of(w, m, index) {
         Ok(trips) => trips,
@@ -17,7 +17,7 @@ pub fn add(w: u32, m: u32, trip: Trip, index: &mut Index) -> Reply {
     if trips.len() == MOST_TRIPS {
         return refusal(2);
     }
-    if let Some(number) = row_refusal(w, m, &trip, &trips) {
+    if let Some(number) = row_refusal(w, &trip, &trips) {
         return refusal(number);
     }
     trips.push(trip);

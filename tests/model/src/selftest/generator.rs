@@ -2,8 +2,11 @@
 //! answer that there is.
 
 use super::report::Report;
-use crate::call::{probe_answer, Call, NUMBERS};
-use crate::generate::{bad_probe_line, fits, Calls, FULL, SMALL};
+use crate::call::{probe_answer, Call, Request, NUMBERS};
+use crate::generate::{bad_probe_line, fits, Calls, ENTRIES_OF_THE_LONGEST, FULL, SMALL};
+use crate::model::places::places;
+use crate::model::ruler::DEEPEST;
+use crate::model::trip::trips_of;
 use crate::random::Random;
 use crate::tally::tally_of;
 
@@ -18,6 +21,8 @@ pub fn generator(report: &mut Report) {
             report.expect(probe_answer(&bad) == "bad line", &format!("is malformed: {}", bad));
             report.expect(call.m <= 10 || call.answer().starts_with("1 0"), "m above 10 is refused");
         }
+        let longest = Calls::new(21, size).take(1_500).any(|call| is_of_longest(&call));
+        report.expect(longest == size.big, "large calls have a table of the longest trips");
         let twice: Vec<Call> = Calls::new(22, size).take(300).collect();
         report.expect(Calls::new(22, size).take(300).eq(twice), "a seed gives the same calls again");
         let tally = tally_of(Calls::new(23, size), 4_000);
@@ -29,5 +34,16 @@ pub fn generator(report: &mut Report) {
                 report.expect(reached || too_big, &format!("{} answers {}", name, number));
             }
         }
+    }
+}
+
+/// A build on the deepest ruler of a thousand trips and more, of 18 entries each.
+fn is_of_longest(call: &Call) -> bool {
+    match &call.request {
+        Request::Build { table } if call.m == DEEPEST && call.answer().starts_with("0 0") => {
+            let trips = trips_of(table);
+            trips.len() > 1_000 && trips.iter().all(|trip| places(call.w, call.m, trip).len() == ENTRIES_OF_THE_LONGEST)
+        }
+        _ => false,
     }
 }

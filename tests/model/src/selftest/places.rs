@@ -55,8 +55,10 @@ fn tried(report: &mut Report, w: u32, m: u32, start: u32, end: u32) {
     report.expect(right, &format!("{}: each cell once", name));
 }
 
-/// Refusal 11 can't be met: 18 is the most, on the deepest level.
+/// The bound of `tried` is met on each ruler by the trip that leaves out the first cell and the last: 18 at m = 10.
 fn most_partitions(report: &mut Report) {
-    let found = places(10, 10, &trip(1, 1, 1022));
-    report.expect(found.len() == 18, "the widest trip of the deepest ruler lies in 18 partitions");
+    for m in 2..=10 {
+        let found = places(m, m, &trip(1, 1, (1 << m) - 2));
+        report.expect(found.len() == 2 * (m as usize - 1), &format!("m = {}: the longest trip lies in 2(m - 1) partitions", m));
+    }
 }

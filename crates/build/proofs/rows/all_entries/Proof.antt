@@ -3,10 +3,11 @@ use mathlib.Core.Path.{_≡_, sym, ap, subst, _∙_}
 use Prim.Native.Nat.{_+_, _-_, _*_, _/_, _≤_}
 use lib.ListN.{length, drop}
 use Rattle.lists.specs.Lists.{sumOver}
-use Rattle.ruler.specs.Ruler.{scale}
-use Rattle.layout.specs.Words.{entryWords, tripAt, rows}
-use Rattle.layout.specs.Refusals.{mostPartitions, partitionsHolding, Fits}
-use Rattle.layout.proofs.Few.{never-eleven}
+use Rattle.ruler.specs.Ruler.{deepest, scale}
+use Rattle.layout.specs.Stored.{mostPartitions}
+use Rattle.layout.specs.Words.{entryWords, tripAt, rows, partitionsHolding}
+use Rattle.layout.specs.Refusals.{Fits}
+use Rattle.layout.proofs.MostPartitions.{deepest-most}
 use Rattle.layout.proofs.Rows.{length-rows}
 use Rattle.layout.proofs.RulerCells.{deep-ruler}
 use Rattle.build.proofs.RowTurns.{tested-fits}
@@ -17,7 +18,7 @@ use Rattle.build.proofs.rows.all_entries.Tie as tie
 
 abbrev Inv-loop : tie.InvT-loop
 Inv-loop ruler table n sum₀ i₀ sum i =
-    (i ≤ length table / entryWords) × (sum ≤ mostPartitions * i)
+    (i ≤ length table / entryWords) × (sum ≤ mostPartitions deepest * i)
     × (sum + sumOver (partitionsHolding (scale ruler)) (drop i (rows table)) ≡ sumOver (partitionsHolding (scale ruler)) (rows table))
 
 abbrev μ-loop : tie.MeasureT-loop
@@ -46,7 +47,7 @@ add-sum c =
     omega (
       arith,
       c .partitions-holding .ensures,
-      never-eleven (scale (g .args .ruler)) (c .before .trip-at .result)
+      deepest-most (scale (g .args .ruler)) (c .before .trip-at .result)
           (deep-ruler (g .args .ruler) (g .pre .good)),
       g .pre .few,
       length-rows (g .args .table .now),
@@ -69,7 +70,7 @@ loop-again c =
       omega (
         arith,
         c .partitions-holding .ensures,
-        never-eleven (scale (g .args .ruler)) (c .before .trip-at .result)
+        deepest-most (scale (g .args .ruler)) (c .before .trip-at .result)
             (deep-ruler (g .args .ruler) (g .pre .good)),
       ),
       rw one (sum-turn f (g .args .table .now) (k .i) (k .sum) (omega arith)) ∙ k .inv .2,

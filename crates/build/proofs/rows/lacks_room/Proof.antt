@@ -1,8 +1,9 @@
 -- The originals are the rows, and the replicas the other entries.
 use mathlib.Core.Path.{refl}
 use Rattle.ruler.specs.Ruler.{scale}
-use Rattle.layout.specs.Refusals.{mostPartitions, partitionsHolding}
-use Rattle.lists.proofs.Bounded.{sum-most}
+use Rattle.layout.specs.Words.{rows}
+use Rattle.layout.proofs.MostEntries.{all-most}
+use Rattle.layout.proofs.RulerCells.{deep-ruler}
 use Rattle.build.proofs.RowsJudged.{rows-within, room-tested}
 use native.Mathlib.Omega.{arith}
 use borrow.Author.Needs.{needs}
@@ -26,8 +27,7 @@ mul-result-2 c =
     omega (
       arith,
       c .all-entries .ensures,
-      sum-most (partitionsHolding (scale (g .args .ruler))) mostPartitions _ (g .pre .rowsOk .few),
-      g .pre .few,
+      all-most (scale (g .args .ruler)) (deep-ruler (g .args .ruler) (g .pre .good)) (rows (g .args .table .now)) (g .pre .few),
     )
 
 returns : tie.Need-returns

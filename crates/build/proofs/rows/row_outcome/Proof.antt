@@ -1,14 +1,13 @@
--- The times first; past them the tests 6 and 11.
-use mathlib.Core.Path.{refl, sym, ap, _∙_}
+-- The times first; past them test 6.
+use mathlib.Core.Path.{sym, ap, _∙_}
 use mathlib.Core.Bool.{true, false}
-use borrow.Author.Tests.{lt-ltb, le-ltb, not-true, not-false}
+use borrow.Author.Tests.{not-true, not-false}
 use Rattle.ruler.specs.Ruler.{scale}
 use Rattle.trip.specs.declared.Trip.{Trip}
 use Rattle.layout.specs.declared.Outcome.the-variants.{Accepted}
-use Rattle.layout.specs.Refusals.{refuse, mostPartitions, partitionsHolding, inTooMany, rowTests}
-use Rattle.layout.proofs.OneRow.{row-untimely, row-fits, row-decided}
+use Rattle.layout.specs.Refusals.{refuse, rowTests}
+use Rattle.layout.proofs.OneRow.{row-untimely, row-decided}
 use Rattle.build.specs.RowsJudged.{rowsBack}
-use native.Mathlib.Omega.{arith}
 use borrow.Author.Needs.{needs}
 use Rattle.build.proofs.rows.row_outcome.Statement.{statement}
 use Rattle.build.proofs.rows.row_outcome.Tie as tie
@@ -19,9 +18,6 @@ start-before-is-accepted c = c .before .before .before .before .before .before
 
 abbrev trip-at-before-id-taken : tie.After-id-taken → tie.After-trip-at
 trip-at-before-id-taken c = c .before .before .before .before .before .before
-
-abbrev time-outcome-before-then3 : tie.Then3 → tie.After-time-outcome
-time-outcome-before-then3 c = c .before .before .before .before .before .before
 
 trip-at-requires : tie.Need-trip-at-requires
 trip-at-requires c κs = search needs
@@ -65,54 +61,21 @@ returns-2 c =
     let times = c .before .before .before .before .before .time-outcome .ensures in
     let is-row = ap (λ (u : Trip). rowTests s back u (g .args .i) Accepted) (read .ensures) in
     let fine = sym (c .before .before .before .before .is-accepted .ensures) ∙ not-false _ (c .before .before .before .if1 .left) in
-    c .refused .ensures ∙ row-decided s back (read .result) (g .args .i) _ times fine true _
-    (sym (c .before .before .id-taken .ensures) ∙ c .before .if2 .taken) refl ∙ is-row
+    c .refused .ensures ∙ row-decided s back (read .result) (g .args .i) _ times fine true
+    (sym (c .before .before .id-taken .ensures) ∙ c .before .if2 .taken) ∙ is-row
 
-partitions-holding-requires : tie.Need-partitions-holding-requires
-partitions-holding-requires c κs =
+returns-3 : tie.Need-returns-3
+unfolding refuse
+returns-3 c =
     let g = start-before-is-accepted (c .before .before .before) in
     let table = g .args .table .now in
     let s = scale (g .args .ruler) in
     let back = rowsBack table (g .args .i) in
     let read = trip-at-before-id-taken (c .before) .trip-at in
     let times = c .before .before .before .before .time-outcome .ensures in
+    let is-row = ap (λ (u : Trip). rowTests s back u (g .args .i) Accepted) (read .ensures) in
     let fine = sym (c .before .before .before .is-accepted .ensures) ∙ not-false _ (c .before .before .if1 .left) in
-    (g .pre .0, row-fits s back (read .result) (g .args .i) _ times fine)
-
-refused-requires-2 : tie.Need-refused-requires-2
-refused-requires-2 c κs = search needs
-
-returns-3 : tie.Need-returns-3
-unfolding refuse inTooMany
-returns-3 c =
-    let g = start-before-is-accepted (c .before .before .before .before .before .before) in
-    let table = g .args .table .now in
-    let s = scale (g .args .ruler) in
-    let back = rowsBack table (g .args .i) in
-    let read = trip-at-before-id-taken (c .before .before .before .before) .trip-at in
-    let times = time-outcome-before-then3 (c .before) .time-outcome .ensures in
-    let is-row = ap (λ (u : Trip). rowTests s back u (g .args .i) Accepted) (read .ensures) in
-    let fine = sym (c .before .before .before .before .before .before .is-accepted .ensures)
-    ∙ not-false _ (c .before .before .before .before .before .if1 .left) in
-    let many = lt-ltb mostPartitions (partitionsHolding s (read .result))
-    (omega (arith, c .before .before .partitions-holding .ensures, c .before .if3 .taken)) in
-    c .refused2 .ensures ∙ row-decided s back (read .result) (g .args .i) _ times fine false true
-    (sym (c .before .before .before .before .id-taken .ensures) ∙ c .before .before .before .if2 .left) many ∙ is-row
-
-returns-4 : tie.Need-returns-4
-unfolding refuse inTooMany
-returns-4 c =
-    let g = start-before-is-accepted (c .before .before .before .before .before) in
-    let table = g .args .table .now in
-    let s = scale (g .args .ruler) in
-    let back = rowsBack table (g .args .i) in
-    let read = trip-at-before-id-taken (c .before .before .before) .trip-at in
-    let times = c .before .before .before .before .before .before .time-outcome .ensures in
-    let is-row = ap (λ (u : Trip). rowTests s back u (g .args .i) Accepted) (read .ensures) in
-    let fine = sym (c .before .before .before .before .before .is-accepted .ensures) ∙ not-false _ (c .before .before .before .before .if1 .left) in
-    let few = le-ltb mostPartitions (partitionsHolding s (read .result)) (omega (arith, c .before .partitions-holding .ensures, c .if3 .left)) in
-    row-decided s back (read .result) (g .args .i) _ times fine false false
-    (sym (c .before .before .before .id-taken .ensures) ∙ c .before .before .if2 .left) few ∙ is-row
+    row-decided s back (read .result) (g .args .i) _ times fine false (sym (c .before .id-taken .ensures) ∙ c .if2 .left) ∙ is-row
 
 pub row-outcome-spec : {M : Type 1} → statement M
 row-outcome-spec =
@@ -126,7 +89,4 @@ row-outcome-spec =
     id-taken-requires
     refused-requires
     returns-2
-    partitions-holding-requires
-    refused-requires-2
-    returns-3
-    returns-4)
+    returns-3)

@@ -42,7 +42,7 @@ trips g = tableOf (scale (g .args .ruler)) (words g)
 
 -- what the requires says of the words
 in-index : (g : tie.Start) → Shown (scale (g .args .ruler)) (words g)
-in-index g = shown _ _ (checked _ _ (g .pre .1))
+in-index g = shown _ _ (checked _ _ (g .pre .1)) (deep-ruler (g .args .ruler) (g .pre .0))
 
 -- as many trips, and as many replicas, as the directory says
 counted : (c : tie.After-entries-of) → (c .before .trips-of .result ≡ length (trips (start-before-entries-of c)))

@@ -5,7 +5,7 @@ use borrow.Author.Tests.{leb-true, leb-false}
 use Rattle.ruler.specs.declared.Cell.{Cell}
 use Rattle.ruler.specs.Ruler.{Scale, deepest, scale, bottomCell, nextCell}
 use Rattle.trip.specs.declared.Trip.{Trip}
-use Rattle.layout.specs.Refusals.{partitionsHolding}
+use Rattle.layout.specs.Words.{partitionsHolding}
 use Rattle.layout.proofs.ByLevel.{heldAbove, held-in-all}
 use Rattle.layout.proofs.RulerCells.{deep-ruler, first-cell, last-cell}
 use Rattle.store.proofs.CountingWalk.{Walk, walk-start, walk-turn, walk-end}

@@ -5,10 +5,11 @@ use Prim.Native.Nat.{_+_, _-_, _*_, _≤_}
 use lib.ListN.{drop}
 use borrow.Author.Tests.{not-true, not-false}
 use Rattle.lists.specs.Lists.{sumOver}
-use Rattle.ruler.specs.Ruler.{scale}
-use Rattle.layout.specs.Words.{tripAt, rows}
-use Rattle.layout.specs.Refusals.{mostPartitions, partitionsHolding, fits}
-use Rattle.layout.proofs.Few.{never-eleven}
+use Rattle.ruler.specs.Ruler.{deepest, scale}
+use Rattle.layout.specs.Words.{tripAt, rows, partitionsHolding}
+use Rattle.layout.specs.Stored.{mostPartitions}
+use Rattle.layout.specs.Refusals.{fits}
+use Rattle.layout.proofs.MostPartitions.{deepest-most}
 use Rattle.layout.proofs.RulerCells.{deep-ruler}
 use Rattle.verify.specs.Passing.{each}
 use Rattle.verify.specs.Local.{countsTo}
@@ -21,7 +22,7 @@ use Rattle.verify.proofs.counting.counts_to.Tie as tie
 abbrev Inv-loop : tie.InvT-loop
 Inv-loop ruler n part rows₀ k₀ sum₀ k sum =
     let s = scale ruler in
-    (k ≤ rows₀) × (sum ≤ mostPartitions * k)
+    (k ≤ rows₀) × (sum ≤ mostPartitions deepest * k)
     × (each (fits s) (drop k (rows part)) ≡ each (fits s) (rows part))
     × (sum + sumOver (partitionsHolding s) (drop k (rows part)) ≡ sumOver (partitionsHolding s) (rows part))
 
@@ -64,7 +65,7 @@ cast-sum c = omega arith
 add-sum : tie.Need-add-sum Inv-loop μ-loop
 add-sum c =
     let g = start-before-else1 (c .before) in
-    let few = never-eleven (scale (g .args .ruler)) (c .before .before .before .trip-at .result) (deep-ruler (g .args .ruler) (g .pre .0)) in
+    let few = deepest-most (scale (g .args .ruler)) (c .before .before .before .trip-at .result) (deep-ruler (g .args .ruler) (g .pre .0)) in
     omega (arith, c .partitions-holding .ensures, g .pre .1)
 
 add-k : tie.Need-add-k Inv-loop μ-loop
@@ -80,7 +81,7 @@ loop-again c =
     let part = g .args .part .now in
     let k = c .before .before .before .before .before .loop in
     let read = c .before .before .before .trip-at .ensures in
-    let few = never-eleven s (c .before .before .before .trip-at .result) (deep-ruler (g .args .ruler) (g .pre .0)) in
+    let few = deepest-most s (c .before .before .before .trip-at .result) (deep-ruler (g .args .ruler) (g .pre .0)) in
     let held : c .partitions-holding .result ≡ partitionsHolding s (tripAt part (k .k)) = rw (← read) (c .partitions-holding .ensures) in
     let passes : fits s (tripAt part (k .k)) ≡ true = rw (← read, ← c .before .before .fits2 .ensures) (not-false _ (c .before .if1 .left)) in (
       omega arith,
