@@ -86,7 +86,8 @@ enum {
     KHEYAMBO_NOT_AN_INDEX = 8,         /* the words are no table's index for this ruler and these lengths */
     KHEYAMBO_NO_RELATIONSHIP = 9,
     KHEYAMBO_NO_SUCH_ID = 10,
-    KHEYAMBO_NO_SUCH_SLOT = 12         /* 11 is given by no call and isn't used again: docs/REFUSALS.md */
+    /* 11 is given by no call and isn't used again: docs/REFUSALS.md */
+    KHEYAMBO_NO_SUCH_SLOT = 12
 };
 
 /* ---- What the calls answer */

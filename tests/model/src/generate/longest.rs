@@ -1,5 +1,5 @@
-//! Tables of the longest trips on the deepest ruler: each from the second cell to the last but one, in 18 partitions, one
-//! original and 17 replicas. As many trips as a probe has room for.
+//! Tables of the longest trips on the deepest ruler: each from the second cell to the last but one, in 18 partitions,
+//! one original and 17 replicas. As many trips as a probe has room for.
 
 use super::buffers::dirty;
 use super::made::{index_of, needed_words, new_id};
