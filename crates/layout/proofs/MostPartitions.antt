@@ -29,8 +29,8 @@ all-cells m L h = let e : L + (m - L) ≡ m = omega arith in sym (pow-add 2 L (m
 -- ---- in all at most so many
 
 -- what the bound is at least, for any m; and it never falls
-bounds : (m : ℕ) → (1 ≤ mostPartitions m) × (m ≤ mostPartitions m) × (2 * (m - 1) ≤ mostPartitions m)
-bounds m = go (decLt m 2)
+at-least : (m : ℕ) → (1 ≤ mostPartitions m) × (m ≤ mostPartitions m) × (2 * (m - 1) ≤ mostPartitions m)
+at-least m = go (decLt m 2)
   where
     go : Dec (m < 2) → (1 ≤ mostPartitions m) × (m ≤ mostPartitions m) × (2 * (m - 1) ≤ mostPartitions m)
     go (yes h) = rw (lt-ltb m 2 h) (omega arith, omega arith, omega arith)
@@ -40,7 +40,7 @@ rising : (m n : ℕ) → m ≤ n → mostPartitions m ≤ mostPartitions n
 rising m n h = go (decLt m 2) (decLt n 2)
   where
     go : Dec (m < 2) → Dec (n < 2) → mostPartitions m ≤ mostPartitions n
-    go (yes l) d = rw (lt-ltb m 2 l) (bounds n .0)
+    go (yes l) d = rw (lt-ltb m 2 l) (at-least n .0)
     go (no l) (yes k) = absurd (omega arith)
     go (no l) (no k) = rw (le-ltb m 2 (omega arith), le-ltb n 2 (omega arith)) (omega arith)
 
@@ -74,14 +74,14 @@ module _ (m a b : ℕ) where
 
   -- where two partitions i and j of a level hold a trip, it leaves out the first cell and the last
   module _ (L i j : ℕ) (h : suc L ≤ m) (ij : i < j) (jn : j < 2 ^ suc L) (s : T (holds m (suc L) i a b)) (t : T (holds m (suc L) j a b)) where
-    first-left : 0 < a
-    first-left = lt-of-not-le (λ z. holds-parent m L i a b s (
+    leaves-first : 0 < a
+    leaves-first = lt-of-not-le (λ z. holds-parent m L i a b s (
         let q = of-within m (suc L) j a b (holds-within m (suc L) j a b t) in
         let hi : i / 2 * 2 + 2 ≤ j + 1 = omega arith in
         to-within m L (i / 2) a b (omega arith) (rw (width-step m L h) (omega (arith, mul-le-mul-right (2 ^ (m - suc L)) hi)))))
 
-    last-left : b + 1 < 2 ^ m
-    last-left = lt-of-not-le (λ z. holds-parent m L j a b t (
+    leaves-last : b + 1 < 2 ^ m
+    leaves-last = lt-of-not-le (λ z. holds-parent m L j a b t (
         let p = of-within m (suc L) i a b (holds-within m (suc L) i a b s) in
         let lo : i ≤ j / 2 * 2 = omega arith in
         let hi : j / 2 + 1 ≤ 2 ^ L = omega (arith, two-pow-succ L) in
@@ -91,7 +91,7 @@ module _ (m a b : ℕ) where
   -- so a trip that has either of them is held by at most one partition of a level, and by none of level 0 if it hasn't all cells
   level-one : ((0 < a) × (b + 1 < 2 ^ m) → ⊥) → (L : ℕ) → suc L ≤ m → count (λ i. holds m (suc L) i a b) (2 ^ suc L) ≤ 1
   level-one f L h = count-single (λ i. holds m (suc L) i a b) (2 ^ suc L)
-      (λ i j ij jn s t. f (first-left L i j h ij jn s t, last-left L i j h ij jn s t))
+      (λ i j ij jn s t. f (leaves-first L i j h ij jn s t, leaves-last L i j h ij jn s t))
 
   at-an-end : (T (within m 0 0 a b) → ⊥) → ((0 < a) × (b + 1 < 2 ^ m) → ⊥) → (L : ℕ) → L ≤ m → heldAbove m a b (suc L) ≤ L
   at-an-end f g zero h = omega (arith, top-none f)
@@ -121,14 +121,14 @@ module _ (m a b : ℕ) where
   held-most : heldAbove m a b (suc m) ≤ mostPartitions m
   held-most = go (within m 0 0 a b) refl
     where
-      leaves : (T (within m 0 0 a b) → ⊥) → Dec (0 < a) → Dec (b + 1 < 2 ^ m) → heldAbove m a b (suc m) ≤ mostPartitions m
-      leaves f (yes p) (yes q) = omega (arith, between-ends p q m (omega arith), bounds m)
-      leaves f (yes p) (no q) = omega (arith, at-an-end f (λ w. q (w .1)) m (omega arith), bounds m)
-      leaves f (no p) d = omega (arith, at-an-end f (λ w. p (w .0)) m (omega arith), bounds m)
+      others : (T (within m 0 0 a b) → ⊥) → Dec (0 < a) → Dec (b + 1 < 2 ^ m) → heldAbove m a b (suc m) ≤ mostPartitions m
+      others f (yes p) (yes q) = omega (arith, between-ends p q m (omega arith), at-least m)
+      others f (yes p) (no q) = omega (arith, at-an-end f (λ w. q (w .1)) m (omega arith), at-least m)
+      others f (no p) d = omega (arith, at-an-end f (λ w. p (w .0)) m (omega arith), at-least m)
 
       go : (c : Bool) → within m 0 0 a b ≡ c → heldAbove m a b (suc m) ≤ mostPartitions m
-      go true e = omega (arith, covered (rw e tt) m (omega arith), bounds m)
-      go false e = leaves (λ t. rw e at t) (decLt 0 a) (decLt (b + 1) (2 ^ m))
+      go true e = omega (arith, covered (rw e tt) m (omega arith), at-least m)
+      go false e = others (λ t. rw e at t) (decLt 0 a) (decLt (b + 1) (2 ^ m))
 
 -- A trip lies in at most 1 partition where m < 2, else in at most 2(m − 1): document 02, T-06.
 pub most-partitions : (s : Scale) (t : Trip) → partitionsHolding s t ≤ mostPartitions (s .m)
