@@ -53,9 +53,10 @@ static void show(const char *name, void *(*work)(void *)) {
 
 int main(void) {
     for (uint32_t i = 0; i < TRIPS; i++) {
-        table[3 * i] = (i * 2654435761u) % 65536u;
-        table[3 * i + 1] = (i * 40503u) % 160000u;
-        table[3 * i + 2] = table[3 * i + 1] + (i * 97u) % 100000u;
+        uint32_t *row = table + KHEYAMBO_ENTRY_WORDS * i;
+        row[0] = (i * 2654435761u) % 65536u;
+        row[1] = (i * 40503u) % 160000u;
+        row[2] = row[1] + (i * 97u) % 100000u;
     }
     show("build", build);
     show("check", check);

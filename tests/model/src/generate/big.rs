@@ -7,7 +7,7 @@ use crate::call::{Call, Request};
 use crate::model::edit::remove;
 use crate::model::index::{directory_length, Index};
 use crate::model::ruler::MOST_TRIPS;
-use crate::model::trip::{words_of, Trip};
+use crate::model::trip::{words_of, Trip, ENTRY_WORDS};
 use crate::random::Random;
 
 pub fn scene(random: &mut Random) -> Vec<Call> {
@@ -58,12 +58,12 @@ fn builds(random: &mut Random, w: u32, m: u32, full: &[Trip], over: Trip) -> Vec
     calls.push(build_call(random, w, m, table.clone(), originals, replicas));
     calls.push(build_call(random, w, m, table.clone(), originals - 1, replicas));
     let mut twice = table.clone();
-    let id_of_last = twice.len() - 3;
+    let id_of_last = twice.len() - ENTRY_WORDS;
     twice[id_of_last] = twice[0];
     calls.push(build_call(random, w, m, twice, originals, replicas));
     let mut longer = table.clone();
     longer.extend(words_of(&[over]));
-    calls.push(build_call(random, w, m, longer, originals + 3, replicas));
+    calls.push(build_call(random, w, m, longer, originals + ENTRY_WORDS, replicas));
     let mut uneven = table;
     uneven.push(0);
     calls.push(build_call(random, w, m, uneven, originals, replicas));

@@ -9,7 +9,7 @@ use super::tables::trips;
 use super::times::{span, times_of, window};
 use crate::call::{Call, Request};
 use crate::model::edit::{add, remove};
-use crate::model::trip::{trips_of, Trip};
+use crate::model::trip::{trips_of, Trip, ENTRY_WORDS};
 use crate::random::Random;
 
 pub fn scene(random: &mut Random, size: Size) -> Vec<Call> {
@@ -80,6 +80,6 @@ fn follow(made: &mut Made, call: &Call) {
     };
     if reply.number == 0 {
         let total = made.index.directory[made.index.directory.len() / 2 - 1] as usize;
-        made.trips = trips_of(&made.index.originals[..3 * total]);
+        made.trips = trips_of(&made.index.originals[..ENTRY_WORDS * total]);
     }
 }

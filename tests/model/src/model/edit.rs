@@ -5,7 +5,7 @@ use super::check::table_of;
 use super::index::{refusal, Index, Reply, ACCEPTED};
 use super::layout::{lay_out, slots, words};
 use super::ruler::MOST_TRIPS;
-use super::trip::Trip;
+use super::trip::{Trip, ENTRY_WORDS};
 use crate::faults::{planted, Fault};
 
 /// Add: 1, 3, 8, 2, 4, 5, 6, 7.
@@ -72,5 +72,6 @@ fn move_to_slot_ends(w: u32, m: u32, trips: &[Trip], index: &mut Index) {
 
 /// Only for the planted fault: the words behind the entries that are left stay as they were.
 fn leave_old_words(left: usize, edited: &mut Index, before: &Index) {
-    edited.originals[3 * left..].copy_from_slice(&before.originals[3 * left..]);
+    let kept = ENTRY_WORDS * left;
+    edited.originals[kept..].copy_from_slice(&before.originals[kept..]);
 }

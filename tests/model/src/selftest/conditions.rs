@@ -8,7 +8,7 @@ use crate::model::check::check;
 use crate::model::index::{directory_length, Index};
 use crate::model::places::places;
 use crate::model::ruler::{in_bounds, MOST_TRIPS};
-use crate::model::trip::{trips_of, Trip};
+use crate::model::trip::{trips_of, Trip, ENTRY_WORDS};
 
 #[derive(Clone, Copy, Debug, PartialEq)]
 enum Condition {
@@ -98,7 +98,7 @@ impl<'a> Half<'a> {
         let entries = self.arena.len() / 3;
         let first = (self.words[number] as usize).min(entries);
         let end = (self.words[number + 1] as usize).min(entries);
-        trips_of(&self.arena[3 * first..3 * end.max(first)])
+        trips_of(&self.arena[ENTRY_WORDS * first..ENTRY_WORDS * end.max(first)])
     }
 
     fn slots(&self) -> usize {
@@ -114,11 +114,11 @@ impl<'a> Half<'a> {
     }
 
     fn fits(&self) -> bool {
-        3 * self.total() <= self.arena.len()
+        ENTRY_WORDS * self.total() <= self.arena.len()
     }
 
     fn spare_is_zero(&self) -> bool {
-        self.arena.iter().skip(3 * self.total()).all(|word| *word == 0)
+        self.arena.iter().skip(ENTRY_WORDS * self.total()).all(|word| *word == 0)
     }
 }
 
