@@ -1,17 +1,18 @@
 -- How many partitions hold one trip: at most two of a level (`level-two`), in all at most 1 where m < 2 and else 2(m − 1) (`most-partitions`), and
 -- some trips lie in as many (`most-reached`). Nothing is asked of the scale: it is so of any two cells a and b.
-use mathlib.Core.Path.{_≡_, refl, sym, ap, _∙_}
+use mathlib.Core.Path.{_≡_, refl, ap}
 use mathlib.Core.Bool.{Bool, true, false}
 use Prim.Native.Nat.{ℕ, zero, suc, _+_, _-_, _*_, _/_, _^_, _≤_, _<_}
 use native.Mathlib.Nat.{two-pow-succ, mul-le-mul-right, lt-of-not-le}
 use native.Mathlib.Decide.{decLt}
 use native.Mathlib.Omega.{arith}
 use lib.Dec.{T}
-use lib.Pow.{pow-add, pow-pos}
+use lib.Pow.{pow-pos}
 use borrow.Author.Tests.{lt-ltb, le-ltb}
 use Rattle.lists.specs.Lists.{count}
 use Rattle.lists.proofs.Counts.{count-pair, count-single, count-two, count-le, count-none}
 use Rattle.ruler.specs.Ruler.{Scale, deepest}
+use Rattle.ruler.proofs.CellLevels.{all-cells}
 use Rattle.trip.specs.declared.Trip.{Trip}
 use Rattle.layout.specs.Stored.{within, holds, mostPartitions}
 use Rattle.layout.specs.Words.{partitionsHolding}
@@ -21,10 +22,6 @@ use Rattle.layout.proofs.ByLevel.{heldAbove, none-above, one-level-more
 -- "It follows, and is proved, that a trip lies in at most two partitions of a level."
 pub level-two : (m L a b : ℕ) → L ≤ m → count (λ i. holds m L i a b) (2 ^ L) ≤ 2
 level-two m L a b h = count-two (λ i. holds m L i a b) (2 ^ L) (λ i j k ij jk kn. at-most-two m L i j k a b h kn ij jk)
-
--- the cells of a level's partitions are all that there are
-all-cells : (m L : ℕ) → L ≤ m → 2 ^ L * 2 ^ (m - L) ≡ 2 ^ m
-all-cells m L h = let e : L + (m - L) ≡ m = omega arith in sym (pow-add 2 L (m - L)) ∙ ap (λ (k : ℕ). 2 ^ k) e
 
 -- ---- in all at most so many
 
@@ -149,6 +146,9 @@ module _ (m : ℕ) where
     abbrev cells : ℕ
     cells = 2 ^ (m - suc (suc L))
 
+    some : 1 ≤ cells
+    some = pow-pos (m - suc (suc L))
+
     four : 4 ≤ 2 ^ suc (suc L)
     four = omega (arith, two-pow-succ (suc L), two-pow-succ L, pow-pos L)
 
@@ -156,8 +156,7 @@ module _ (m : ℕ) where
     second =
         let e = all-cells m (suc (suc L)) h in
         to-holds m (suc L) 1 1 last
-        (to-within m (suc (suc L)) 1 1 last (omega (arith, pow-pos (m - suc (suc L))))
-        (omega (arith, pow-pos (m - suc (suc L)), mul-le-mul-right cells four)))
+        (to-within m (suc (suc L)) 1 1 last (omega (arith, some)) (omega (arith, some, mul-le-mul-right cells four)))
         (λ t. let w = of-within m (suc L) 0 1 last t in omega arith)
 
     last-but-one : (k : ℕ) → k + 2 ≡ 2 ^ suc (suc L) → T (holds m (suc (suc L)) k 1 last)
@@ -165,11 +164,10 @@ module _ (m : ℕ) where
         let all : (k + 2) * cells ≡ 2 ^ m = rw e (all-cells m (suc (suc L)) h) in
         let up : k / 2 + 1 ≡ 2 ^ suc L = omega (arith, two-pow-succ (suc L)) in
         let all-up : (k / 2 + 1) * 2 ^ (m - suc L) ≡ 2 ^ m = rw up (all-cells m (suc L) (omega arith)) in
-        let some : 2 ≤ k = omega (arith, four) in
-        to-holds m (suc L) k 1 last
-        (to-within m (suc (suc L)) k 1 last (omega (arith, pow-pos (m - suc (suc L)), mul-le-mul-right cells some))
-        (omega (arith, pow-pos (m - suc (suc L)), mul-le-mul-right cells some)))
-        (λ t. let w = of-within m (suc L) (k / 2) 1 last t in omega (arith, all-up, all, pow-pos (m - suc (suc L))))
+        let two : 2 ≤ k = omega (arith, four) in
+        let least = mul-le-mul-right cells two in
+        to-holds m (suc L) k 1 last (to-within m (suc (suc L)) k 1 last (omega (arith, some)) (omega (arith, some)))
+        (λ t. let w = of-within m (suc L) (k / 2) 1 last t in omega (arith, some))
 
     both : 2 ≤ count (λ i. holds m (suc (suc L)) i 1 last) (2 ^ suc (suc L))
     both =

@@ -122,7 +122,7 @@ module _ (m a b x : ℕ) where
     where
       go : (c : Bool) → at-cell L ≡ c → (T (at-cell L) → (K : ℕ) × (K ≤ m) × HeldAt K) → (K : ℕ) × (K ≤ m) × HeldAt K
       go true e ih = ih (rw e tt)
-      go false e ih = (suc L, h, to-and (at-cell (suc L)) (not (within m L (cellUp m (suc L) x / 2) a b)) t (rw (← up-half m L x h, e) tt))
+      go false e ih = (suc L, h, to-holds m L (cellUp m (suc L) x) a b t (λ w. rw (← up-half m L x h, e) at w))
 
   pub held-some : a ≤ x → x ≤ b → (K : ℕ) × (K ≤ m) × HeldAt K
   unfolding at-cell

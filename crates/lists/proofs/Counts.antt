@@ -80,7 +80,4 @@ count-le g (suc n) = go (g n) (count-le g n)
     go false h = omega arith
 
 pub count-none : (g : ℕ → Bool) (n : ℕ) → ((i : ℕ) → i < n → T (g i) → ⊥) → count g n ≡ 0
-count-none g n h = le-zero (nothing (λ q. let w = last-one g n 0 q in h (w .0) (w .1) (w .2)))
-  where
-    nothing : {a : ℕ} → (1 ≤ a → ⊥) → a ≤ 0
-    nothing f = omega (arith, f)
+count-none g n h = le-zero (le-of-not-lt (λ q. let w = last-one g n 0 q in h (w .0) (w .1) (w .2)))

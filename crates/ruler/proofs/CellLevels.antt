@@ -1,9 +1,9 @@
 -- The cell of a level in which a deeper cell lies, for any m: a step towards level 0 halves it.
-use mathlib.Core.Path.{_≡_, sym}
+use mathlib.Core.Path.{_≡_, sym, ap, _∙_}
 use Prim.Native.Nat.{ℕ, suc, _+_, _-_, _*_, _/_, _^_, _≤_, _<_}
 use native.Mathlib.Nat.{sub-self, div-one, le-div-iff-mul-le, div-lt-iff-lt-mul}
 use native.Mathlib.Omega.{arith}
-use lib.Pow.{pow-pos, shr-shr, shr-mono, shr-lt}
+use lib.Pow.{pow-pos, pow-add, shr-shr, shr-mono, shr-lt}
 use Rattle.ruler.specs.Ruler.{cellUp}
 
 -- "each step from level m towards 0 halves it"
@@ -22,6 +22,10 @@ up-lt m L c h l = let e : L + (m - L) ≡ m = omega arith in shr-lt L (m - L) (r
 pub up-mono : (m L c d : ℕ) → c ≤ d → cellUp m L c ≤ cellUp m L d
 unfolding cellUp
 up-mono m L c d h = shr-mono (m - L) h
+
+-- each level-L cell has 2 ^ (m - L) cells of level m; together they have all
+pub all-cells : (m L : ℕ) → L ≤ m → 2 ^ L * 2 ^ (m - L) ≡ 2 ^ m
+all-cells m L h = let e : L + (m - L) ≡ m = omega arith in sym (pow-add 2 L (m - L)) ∙ ap (λ (k : ℕ). 2 ^ k) e
 
 -- the level-m cells of the level-L cell i are i × 2 ^ (m - L) and those after it, as many as 2 ^ (m - L)
 pub up-from : (m L x i : ℕ) → i ≤ cellUp m L x → i * 2 ^ (m - L) ≤ x

@@ -1,10 +1,11 @@
 -- The numbers of cells are small, so that no sum or product of the code wraps.
-use mathlib.Core.Path.{_≡_, sym, ap, _∙_}
+use mathlib.Core.Path.{_≡_, ap, _∙_}
 use Prim.Native.Nat.{ℕ, _+_, _-_, _*_, _^_, _≤_, _<_}
 use native.Mathlib.Nat.{mul-le-mul-right}
 use native.Mathlib.Omega.{arith}
-use lib.Pow.{pow-pos, pow-mono, pow-add}
+use lib.Pow.{pow-pos, pow-mono}
 use Rattle.ruler.specs.Ruler.{deepest}
+use Rattle.ruler.proofs.CellLevels.{all-cells}
 
 -- the cells of level m in cell i of level L, `width` of them, are bounded by those of the deepest level
 pub record Small (i width : ℕ) : Type 0 where
@@ -15,8 +16,7 @@ pub record Small (i width : ℕ) : Type 0 where
 
 pub small : (m L i width : ℕ) → m ≤ deepest → L ≤ m → i < 2 ^ L → width ≡ 2 ^ (m - L) → Small i width
 small m L i width h g l e =
-    let all : L + (m - L) ≡ m = omega arith in
-    let p : 2 ^ L * width ≡ 2 ^ m = ap (λ (k : ℕ). 2 ^ L * k) e ∙ sym (pow-add 2 L (m - L)) ∙ ap (λ (k : ℕ). 2 ^ k) all in
+    let p : 2 ^ L * width ≡ 2 ^ m = ap (λ (k : ℕ). 2 ^ L * k) e ∙ all-cells m L g in
     let next : i + 1 ≤ 2 ^ L = omega arith in
     let one : 1 ≤ i + 1 = omega arith in
     let more : i ≤ i + 1 = omega arith in

@@ -1,7 +1,7 @@
 -- How many slots of one half a trip can have, and which of them the walk visits at a level.
 use mathlib.Core.Path.{_≡_}
 use mathlib.Core.List.{List, _++_}
-use Prim.Native.Nat.{ℕ, _+_, _^_, _≤_}
+use Prim.Native.Nat.{ℕ, _+_, _*_, _^_, _≤_}
 use lib.Dec.{eqb}
 use lib.ListN.{length}
 use lib.Seq.{sets}
@@ -12,7 +12,7 @@ use Rattle.store.specs.TripWalk.{visit}
 
 -- two of each of the levels 0 to `deepest`
 abbrev pub mostSlots : ℕ
-mostSlots = 22
+mostSlots = 2 * (deepest + 1)
 
 -- cells of one level; lo and hi may be one past its last
 pub record Level (lo hi first last : Cell) : Type 0 where

@@ -96,7 +96,7 @@ module _ (s : Scale) (x : Index) (w : Indexed s x) where
     -- a run ends within the most entries
     pub run-few : s .m ≤ deepest → runFrom s trips L i d + length (runWords s trips L i d) ≤ entryWords * mostEntries
     unfolding runFrom runWords
-    run-few most =
+    run-few no-deeper =
         let h = halfOf d in
         let k = slotNumber L i (isAft d) in
         omega (
@@ -105,7 +105,7 @@ module _ (s : Scale) (x : Index) (w : Indexed s x) where
           ap length slot-is,
           words-length (slotTrips s d L i trips),
           before-le s h trips (k + 1) (omega (arith, inside)),
-          entries-most s most trips (w .table .few) h,
+          entries-most s no-deeper trips (w .table .few) h,
         )
 
   -- ---- the census
