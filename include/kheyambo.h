@@ -32,7 +32,7 @@ enum {
     KHEYAMBO_WIDEST = 24,          /* w is 1 to 24 */
     KHEYAMBO_DEEPEST = 10,         /* m is 0 to 10, and at most w */
     KHEYAMBO_MOST_TRIPS = 4096,    /* the trips of an index, and the rows of a table */
-    KHEYAMBO_MOST_ENTRIES = 18,    /* the entries of one trip, in both arenas together, at m = 10 */
+    KHEYAMBO_MOST_ENTRIES = 18,    /* the most entries of one trip, in both arenas together (m = 10) */
     KHEYAMBO_ENTRY_WORDS = 3       /* the words of a table's row and of an index's entry: id, start, end */
 };
 

@@ -1,11 +1,10 @@
 //! The most trips, 4,096, and one more.
 
-use super::buffers::dirty;
+use super::buffers::{dirty, dirty_index};
 use super::made::{index_of, needed_words};
 use super::times::window;
 use crate::call::{Call, Request};
 use crate::model::edit::remove;
-use crate::model::index::{directory_length, Index};
 use crate::model::ruler::MOST_TRIPS;
 use crate::model::trip::{words_of, Trip, ENTRY_WORDS};
 use crate::random::Random;
@@ -71,11 +70,7 @@ fn builds(random: &mut Random, w: u32, m: u32, full: &[Trip], over: Trip) -> Vec
 }
 
 fn build_call(random: &mut Random, w: u32, m: u32, table: Vec<u32>, originals: usize, replicas: usize) -> Call {
-    let index = Index {
-        directory: dirty(random, directory_length(m)),
-        originals: dirty(random, originals),
-        replicas: dirty(random, replicas),
-    };
+    let index = dirty_index(random, m, originals, replicas);
     Call { w, m, request: Request::Build { table }, index }
 }
 

@@ -1,6 +1,7 @@
 //! Lengths and first contents of lent buffers.
 
 use super::size::Size;
+use crate::model::index::{directory_length, Index};
 use crate::random::Random;
 
 /// A length near what is needed: exact most often, a word or an entry short, not a multiple of an entry,
@@ -33,4 +34,13 @@ pub fn dirty(random: &mut Random, length: usize) -> Vec<u32> {
         });
     }
     words
+}
+
+/// The three buffers of an index, with arenas of these lengths, as a caller may have left them.
+pub fn dirty_index(random: &mut Random, m: u32, originals: usize, replicas: usize) -> Index {
+    Index {
+        directory: dirty(random, directory_length(m)),
+        originals: dirty(random, originals),
+        replicas: dirty(random, replicas),
+    }
 }

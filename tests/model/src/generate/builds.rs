@@ -1,6 +1,6 @@
 //! Builds: lawful ones, and ones with faults of every rank at once.
 
-use super::buffers::{dirty, length_near};
+use super::buffers::{dirty_index, length_near};
 use super::made::needed_words;
 use super::rows::{spoil_length, spoil_rows};
 use super::rulers::{ruler, spoil_directory, spoil_ruler};
@@ -8,8 +8,8 @@ use super::size::Size;
 use super::tables::trips;
 use crate::call::{Call, Request};
 use crate::model::build::build;
-use crate::model::index::{directory_length, Index, ACCEPTED};
-use crate::model::trip::words_of;
+use crate::model::index::ACCEPTED;
+use crate::model::trip::{words_of, ENTRY_WORDS};
 use crate::random::Random;
 
 /// A build; after an accepted one at times the check of what it wrote, or the same table in another
@@ -27,11 +27,7 @@ pub fn scene(random: &mut Random, size: Size) -> Vec<Call> {
     }
     let originals_length = length_near(random, size, originals, true);
     let replicas_length = length_near(random, size, replicas, true);
-    let mut index = Index {
-        directory: dirty(random, directory_length(m)),
-        originals: dirty(random, originals_length),
-        replicas: dirty(random, replicas_length),
-    };
+    let mut index = dirty_index(random, m, originals_length, replicas_length);
     if random.once_in(12) {
         spoil_directory(random, m, &mut index.directory);
     }
@@ -56,7 +52,7 @@ fn second_call(random: &mut Random, first: &Call, table: Vec<u32>) -> Option<Cal
         second.request = Request::Check;
         second.index = built;
     } else {
-        let mut rows: Vec<&[u32]> = table.chunks(3).collect();
+        let mut rows: Vec<&[u32]> = table.chunks(ENTRY_WORDS).collect();
         random.shuffle(&mut rows);
         second.request = Request::Build { table: rows.concat() };
     }

@@ -1,14 +1,13 @@
 //! Tables of the longest trips on the deepest ruler: each from the second cell to the last but one, in 18 partitions,
 //! one original and 17 replicas. As many trips as a probe has room for.
 
-use super::buffers::dirty;
+use super::buffers::{dirty, dirty_index};
 use super::made::{index_of, needed_words, new_id};
 use super::tables::longest_trips;
 use super::times::window;
 use super::MOST_REPLICAS;
 use crate::call::{Call, Request};
 use crate::model::edit::remove;
-use crate::model::index::{directory_length, Index};
 use crate::model::ruler::DEEPEST;
 use crate::model::trip::{words_of, Trip, ENTRY_WORDS};
 use crate::random::Random;
@@ -23,11 +22,7 @@ pub fn scene(random: &mut Random) -> Vec<Call> {
     let (originals, replicas) = needed_words(w, m, &trips);
     let mut calls = Vec::new();
     for (originals, replicas) in [(originals, replicas), (originals - 1, replicas), (originals, replicas - 1)] {
-        let index = Index {
-            directory: dirty(random, directory_length(m)),
-            originals: dirty(random, originals),
-            replicas: dirty(random, replicas),
-        };
+        let index = dirty_index(random, m, originals, replicas);
         calls.push(Call { w, m, request: Request::Build { table: words_of(&trips) }, index });
     }
     // The originals have room for one trip more, the replicas have none.
