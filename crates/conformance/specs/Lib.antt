@@ -9,3 +9,8 @@ pub mod Part5
 pub mod Part6
 pub mod Part7
 pub mod Part8
+pub mod Part9
+pub mod Part10
+pub mod Part11
+pub mod Part12
+pub mod Part13

@@ -5,4 +5,5 @@ pub mod SettledPrograms
 pub mod Refusals
 pub mod Exact
 pub mod Edits
+pub mod Thirteen
 pub mod StandIns

@@ -5,9 +5,9 @@ use mathlib.Core.List.{List}
 use Prim.Native.Nat.{ℕ, zero, suc, _+_, _*_, _/_, _%_}
 use native.Mathlib.Omega.{arith}
 use lib.ListN.{length}
-use Rattle.lists.specs.Lists.{oneMore, count, sumOver}
+use Rattle.lists.specs.Lists.{oneMore, count, sumTo, sumOver}
 use Rattle.lists.proofs.Members.{length-sort}
-use Rattle.lists.proofs.Sums.{sumTo, length-joined, sum-over-add, exchange, one-more, pairOf, count-pairs}
+use Rattle.lists.proofs.Sums.{length-joined, sum-over-add, exchange, one-more, pairOf, count-pairs}
 use Rattle.ruler.specs.Ruler.{Scale}
 use Rattle.trip.specs.declared.Trip.{Trip}
 use Rattle.layout.specs.declared.Half.{Half}

@@ -5,7 +5,7 @@ use mathlib.Core.List.{List, map}
 use Prim.Native.Nat.{ℕ, suc, _*_}
 use lib.Dec.{leb}
 use lib.ListN.{length, length-map}
-use Rattle.lists.specs.Lists.{joined, upTo, over}
+use Rattle.lists.specs.Lists.{keep, joined, upTo, over}
 use Rattle.lists.proofs.Members.{In, length-sort}
 use Rattle.ruler.specs.Ruler.{Scale, deepest}
 use Rattle.ruler.proofs.Fair.{Fair}
@@ -14,7 +14,7 @@ use Rattle.trip.specs.declared.Asking.{Asking}
 use Rattle.trip.specs.declared.Question.{Question}
 use Rattle.trip.specs.declared.Relationship.{Relationship}
 use Rattle.trip.specs.declared.Named.the-variants.{As}
-use Rattle.trip.specs.Relationships.{named}
+use Rattle.trip.specs.Relationships.{named, holdsBy, codeHolds}
 use Rattle.trip.proofs.Naming.{named-within}
 use Rattle.layout.specs.declared.Half.{Half}
 use Rattle.layout.specs.declared.Subdivision.{Subdivision}
@@ -23,13 +23,13 @@ use Rattle.layout.specs.declared.Outcome.the-variants.{Accepted}
 use Rattle.layout.specs.Stored.{partitionsAt}
 use Rattle.layout.specs.Words.{entryWords, rows, words, slotNumber, slotTrips, entries, Index}
 use Rattle.layout.specs.Answers.{matches, answer, question, answerBy, answerTo, levelCount, levelRow, census, halfOf, isAft, runWords, runFrom}
-use Rattle.layout.specs.Refusals.{IndexOf, tableOf, noSuchCode, windowTests, questionTests, roomTest, askOutcome}
-use Rattle.layout.specs.Calls.{asked, ifAccepted, askOf}
-use Rattle.layout.proofs.Chains.{refuse-pass, window-pass}
+use Rattle.layout.specs.Refusals.{OnRuler, IndexOf, tableOf, noSuchCode, windowTests, questionTests, roomTest, askOutcome}
+use Rattle.layout.specs.Calls.{Asked, asked, ifAccepted, askOf}
+use Rattle.layout.proofs.Chains.{refuse-no, refuse-pass, times-on, window-pass}
 use Rattle.layout.proofs.RowOrder.{Distinct, slotTrips-same, before-same, entries-same, length-same}
 use Rattle.layout.proofs.Indexes.{given-table, given-indexed}
 use Rattle.layout.proofs.SortedLists.{idOf, answer-same}
-use Rattle.layout.proofs.EditsBuild.{to-indexTests, table-in, in-table}
+use Rattle.layout.proofs.EditsBuild.{of-indexTests, to-indexTests, table-in, in-table}
 
 -- ---- two tables with the same rows, no id twice in either
 
@@ -58,6 +58,13 @@ module _ (s : Scale) (ts us : List Trip) (n : Distinct ts) (e : Distinct us) (f 
 pub answer-count : (q : Question) (ts : List Trip) → length (answer q ts) ≡ length (matches q ts)
 unfolding answer
 answer-count q ts = length-sort leb (map idOf (matches q ts)) ∙ length-map (matches q ts) idOf
+
+-- an accepted question has passed 4 and 5
+pub asked-on-ruler : (s : Scale) (x : Index) (q : Asking) (room : ℕ) → askOutcome s x q room ≡ Accepted
+    → OnRuler s (q .window .start) (q .window .end)
+unfolding askOutcome questionTests windowTests
+asked-on-ruler s x q room e =
+    times-on s (q .window .start) (q .window .end) 0 _ (refuse-no _ _ 0 _ (of-indexTests s x _ e .1) .1)
 
 -- ---- a table that gives the words, and the trips that are read off them
 
@@ -110,3 +117,9 @@ module _ (s : Scale) (fair : Fair s) (table : List ℕ) (x : Index) (g : IndexOf
         ≡ asked Accepted (length (answer (question r q) (rows table))) (over (answer (question r q) (rows table)) list)
     unfolding askOf ifAccepted
     given-asked list e = rw (e, given-ids)
+
+    -- as many as what its code names holds of
+    pub given-count : (list : List ℕ) → askOutcome s x q (length list) ≡ Accepted → askOf s x q list .count
+        ≡ length (keep (codeHolds (q .code) (q .window)) (rows table))
+    unfolding matches holdsBy
+    given-count list e = ap (λ (a : Asked). a .count) (given-asked list e) ∙ answer-count (question r q) (rows table) ∙ rw is

@@ -9,8 +9,8 @@ use native.Mathlib.Omega.{arith}
 use lib.ListN.{length, length-append}
 use lib.Pow.{pow-pos}
 use borrow.Author.Tests.{le-leb}
-use Rattle.lists.specs.Lists.{joined}
-use Rattle.lists.proofs.Sums.{sumTo, length-joined}
+use Rattle.lists.specs.Lists.{joined, sumTo}
+use Rattle.lists.proofs.Sums.{length-joined}
 use Rattle.ruler.specs.Ruler.{Scale}
 use Rattle.trip.specs.declared.Trip.{Trip}
 use Rattle.layout.specs.declared.Half.{Half}

@@ -55,6 +55,12 @@ passing g (suc n) i l t = go (ℕ-discrete i n) (g n) refl (passing g n i)
 pub count-pair : (g : ℕ → Bool) (n i j : ℕ) → i < j → j < n → T (g i) → T (g j) → 2 ≤ count g n
 count-pair g n i j ij jn s t = omega (arith, passing g j i ij s, passing g n j jn t)
 
+-- one that passes, and no other: one
+pub count-one : (g : ℕ → Bool) (n i : ℕ) → i < n → T (g i) → ((j : ℕ) → j < n → T (g j) → j ≡ i) → count g n ≡ 1
+count-one g n i l t only =
+    let one-at-most = count-single g n (λ j k h m a b. omega (arith, only j (omega arith) a, only k m b)) in
+    omega (arith, passing g n i l t)
+
 pub count-add : (g : ℕ → Bool) (n k : ℕ) → count g (n + k) ≡ count g n + count (λ i. g (n + i)) k
 unfolding count
 count-add g n zero = rw add-zero (sym (add-zero (count g n)))

@@ -1,23 +1,23 @@
--- Sums over the numbers below n and over a list: what is at most as large each and no smaller in all is the same each; and two sums of
--- counts exchanged.
-use mathlib.Core.Path.{_≡_, refl, ap, _∙_}
+-- Sums over the numbers below n and over a list: what is at most as large each and no smaller in all is the same each; two sums of
+-- counts exchanged; and what is kept in one place each.
+use mathlib.Core.Path.{_≡_, refl, ap, ap₂, _∙_}
 use mathlib.Core.Bool.{Bool, true, false}
-use mathlib.Core.List.{List, [], _∷_}
+use mathlib.Core.List.{List, [], _∷_, List·Memᴰ as Mem, List·Memᴰ·head as here, List·Memᴰ·tail as there}
 use Prim.Native.Nat.{ℕ, zero, suc, _+_, _*_, _≤_, _<_}
 use native.Mathlib.Omega.{arith}
 use native.Mathlib.Decide.{decLt}
 use lib.ListN.{length, length-append}
-use Rattle.lists.specs.Lists.{consIf, keep, joined, oneMore, count, sumOver}
-
--- f 0 + f 1 + .. + f (n - 1)
-unfoldable pub sumTo : (ℕ → ℕ) → ℕ → ℕ
-sumTo f zero = 0
-sumTo f (suc n) = sumTo f n + f n
+use Rattle.lists.specs.Lists.{consIf, keep, joined, oneMore, count, sumTo, sumOver}
 
 pub length-joined : {A : Type 0} (f : ℕ → List A) (n : ℕ) → length (joined f n) ≡ sumTo (λ k. length (f k)) n
 unfolding joined sumTo
 length-joined f zero = refl
 length-joined f (suc n) = rw (length-append, length-joined f n)
+
+pub sum-ext : (f g : ℕ → ℕ) (n : ℕ) → ((k : ℕ) → k < n → f k ≡ g k) → sumTo f n ≡ sumTo g n
+unfolding sumTo
+sum-ext f g zero h = refl
+sum-ext f g (suc n) h = ap₂ _+_ (sum-ext f g n (λ k l. h k (omega arith))) (h n (omega arith))
 
 sum-le : (f g : ℕ → ℕ) (n : ℕ) → ((k : ℕ) → k < n → f k ≤ g k) → sumTo f n ≤ sumTo g n
 unfolding sumTo
@@ -68,6 +68,14 @@ module _ {A : Type 0} (b : ℕ → A → Bool) where
   unfolding sumOver
   exchange [] n = no-sum n
   exchange (x ∷ l) n = one-sum x l n ∙ ap (λ (i : ℕ). count (λ k. b k x) n + i) (exchange l n)
+
+  -- where each member that passes a test is kept in one of n places, and each other in none, that is as many as pass
+  pub sum-kept : (p : A → Bool) (l : List A) (n : ℕ) → ((x : A) → Mem x l → count (λ k. b k x) n ≡ oneMore (p x) 0)
+      → sumTo (λ k. length (keep (b k) l)) n ≡ length (keep p l)
+  unfolding keep
+  sum-kept p [] n h = no-sum n
+  sum-kept p (x ∷ l) n h =
+      omega (arith, one-sum x l n, h x (here refl), sum-kept p l n (λ y m. h y (there m)), length-consIf (p x) x (keep p l))
 
 -- ---- counts by twos
 

@@ -1,8 +1,9 @@
--- Tests joined by && and ||, as facts.
+-- Tests joined by && and ||, as facts; and the test of two numbers that are the same.
 use mathlib.Core.Path.{_≡_, refl}
 use mathlib.Core.Logic.{_⊎_, inl, inr}
 use mathlib.Core.Bool.{Bool, true, false, not, _&&_, _||_}
-use lib.Dec.{T}
+use Prim.Native.Nat.{ℕ}
+use lib.Dec.{T, eqb, eqb-refl}
 
 pub of-and : (a b : Bool) → T (a && b) → T a × T b
 of-and true b t = (tt, t)
@@ -11,6 +12,15 @@ of-and false b t = absurd t
 pub to-and : (a b : Bool) → T a → T b → T (a && b)
 to-and true b s t = t
 to-and false b s t = s
+
+pub of-three : (a b c : Bool) → T (a && b && c) → T a × T b × T c
+of-three a b c t =
+    let x = of-and (a && b) c t in
+    let y = of-and a b (x .0) in
+    (y .0, y .1, x .1)
+
+pub to-three : (a b c : Bool) → T a × T b × T c → T (a && b && c)
+to-three a b c x = to-and (a && b) c (to-and a b (x .0) (x .1)) (x .2)
 
 pub of-or : (a b : Bool) → T (a || b) → T a ⊎ T b
 of-or true b t = inl t
@@ -39,6 +49,16 @@ of-not-not false t = t
 pub to-not-not : (a : Bool) → T a → T (not (not a))
 to-not-not true t = tt
 to-not-not false t = t
+
+-- tests that pass alike are one Bool
+pub agree : (a b : Bool) → (T a → T b) → (T b → T a) → a ≡ b
+agree true true f g = refl
+agree true false f g = absurd (f tt)
+agree false true f g = absurd (g tt)
+agree false false f g = refl
+
+pub eq→eqb : (m n : ℕ) → m ≡ n → T (eqb m n)
+eq→eqb m n e = rw e (eqb-refl n)
 
 -- a test that passes, said by an equation or by T
 pub to-T : {b : Bool} → b ≡ true → T b

@@ -27,6 +27,11 @@ unfoldable pub count : (ℕ → Bool) → ℕ → ℕ
 count f zero = zero
 count f (suc n) = oneMore (f n) (count f n)
 
+-- f 0 + f 1 + .. + f (n - 1)
+unfoldable pub sumTo : (ℕ → ℕ) → ℕ → ℕ
+sumTo f zero = 0
+sumTo f (suc n) = sumTo f n + f n
+
 -- the words l, then zeros up to n words (l alone, where it has more)
 unfoldable pub padded : ℕ → List ℕ → List ℕ
 padded n l = l ++ replicate (n - length l) 0

@@ -6,7 +6,7 @@ use native.Mathlib.Numerals.{add-one}
 use native.Mathlib.Omega.{arith}
 use lib.Dec.{T, leb, ltb, eqb, leb→le, le→leb, ltb→lt, lt→ltb, eqb→eq, eqb-refl, leb·zero, leb·suc-suc}
 use borrow.Author.Tests.{lt-ltb}
-use Rattle.lists.proofs.Tests.{of-and, to-and}
+use Rattle.lists.proofs.Tests.{of-and, to-and, of-three, to-three, agree, eq→eqb}
 use Rattle.ruler.specs.declared.Time.{Time}
 use Rattle.ruler.specs.Ruler.{before, noLater, sameTime}
 use Rattle.trip.specs.declared.Trip.{Trip}
@@ -14,14 +14,7 @@ use Rattle.trip.specs.declared.Window.{Window}
 use Rattle.trip.specs.declared.Relationship.{Relationship}
 use Rattle.trip.specs.declared.Relationship.the-variants.{Equals, Starts, StartedBy, Finishes, FinishedBy, Meets, MetBy, Overlaps, OverlappedBy, Contains, ContainedBy, Before, After, GOverlaps}
 use Rattle.trip.specs.Relationships.{related}
-use Rattle.plan.specs.Bounds.{has, inside, far, exactly, later, earlier, between, since, until, any, boundsOf}
-
--- tests that pass alike are one Bool
-agree : (a b : Bool) → (T a → T b) → (T b → T a) → a ≡ b
-agree true true f g = refl
-agree true false f g = absurd (f tt)
-agree false true f g = absurd (g tt)
-agree false false f g = refl
+use Rattle.plan.specs.Bounds.{has, inside, far, exactly, exactlyIf, later, earlier, between, since, until, any, boundsOf}
 
 -- ---- each kind of span, as one test
 
@@ -41,6 +34,13 @@ module _ (q t : Time) where
       (λ p.
       let e = eqb→eq a b p in
       to-and (leb a b) (ltb b (a + 1)) (le→leb a b (omega arith)) (lt→ltb b (a + 1) (omega arith)))
+
+  in-exactly-if : (test : Bool) → has (exactlyIf test q) t ≡ (test && sameTime q t)
+  unfolding has
+  in-exactly-if true = in-exactly
+  in-exactly-if false =
+      agree (leb (q .0) (t .0) && ltb (t .0) (q .0)) false
+      (λ p. let w = of-and (leb (q .0) (t .0)) (ltb (t .0) (q .0)) p in absurd (omega (arith, leb→le, ltb→lt))) (λ p. absurd p)
 
   in-earlier : has (earlier q) t ≡ before t q
   unfolding has
@@ -66,6 +66,30 @@ in-between : (a b t : Time) → has (between a b) t ≡ (before a t && before t 
 unfolding has
 in-between a b t = rw (add-one (a .0))
 
+-- three tests and another three that pass alike
+alike : (a b c d e f : Bool) → (T a × T b × T c → T d × T e × T f) → (T d × T e × T f → T a × T b × T c) → (a && b && c) ≡ (d && e && f)
+alike a b c d e f to from =
+    agree (a && b && c) (d && e && f) (λ p. to-three d e f (to (of-three a b c p))) (λ p. to-three a b c (from (of-three d e f p)))
+
+-- of a trip that starts where a window ends, or ends where it starts, the other end tells whether it is a point
+module _ (q : Window) (t : Trip) where
+  abbrev proper : Bool
+  proper = before (q .start) (q .end)
+
+  meets : (proper && sameTime (q .end) (t .start) && before (q .end) (t .end)) ≡ related Meets q t
+  unfolding related
+  meets =
+      let meet = sameTime (q .end) (t .start) in
+      alike proper meet (before (q .end) (t .end)) proper meet (before (t .start) (t .end))
+      (λ w. omega (arith, eqb→eq, eq→eqb, ltb→lt, lt→ltb)) (λ w. omega (arith, eqb→eq, eq→eqb, ltb→lt, lt→ltb))
+
+  met-by : (before (t .start) (q .start) && (proper && sameTime (q .start) (t .end))) ≡ related MetBy q t
+  unfolding related
+  met-by =
+      rw (← and-assoc (before (t .start) (q .start)) proper (sameTime (q .start) (t .end)))
+      (alike (before (t .start) (q .start)) proper (sameTime (q .start) (t .end)) (before (t .start) (t .end)) (sameTime (t .end) (q .start)) proper
+      (λ w. omega (arith, eqb→eq, eq→eqb, ltb→lt, lt→ltb)) (λ w. omega (arith, eqb→eq, eq→eqb, ltb→lt, lt→ltb)))
+
 -- ---- the law
 
 pub inside-related : (r : Relationship) (q : Window) (t : Trip) → t .start .0 < far → t .end .0 < far → inside (boundsOf r q) t ≡ related r q t
@@ -75,8 +99,10 @@ inside-related Starts q t hs he = ap₂ _&&_ (in-exactly (q .start) (t .start)) 
 inside-related StartedBy q t hs he = ap₂ _&&_ (in-exactly (q .start) (t .start)) (in-earlier (q .end) (t .end))
 inside-related Finishes q t hs he = ap₂ _&&_ (in-earlier (q .start) (t .start)) (in-exactly (q .end) (t .end))
 inside-related FinishedBy q t hs he = ap₂ _&&_ (in-later (q .start) (t .start) hs) (in-exactly (q .end) (t .end))
-inside-related Meets q t hs he = ap₂ _&&_ (in-exactly (q .end) (t .start)) (in-any (t .end) he) ∙ and-true _
-inside-related MetBy q t hs he = ap₂ _&&_ (in-any (t .start) hs) (in-exactly (q .start) (t .end))
+inside-related Meets q t hs he =
+    ap₂ _&&_ (in-exactly-if (q .end) (t .start) (before (q .start) (q .end))) (in-later (q .end) (t .end) he) ∙ meets q t
+inside-related MetBy q t hs he =
+    ap₂ _&&_ (in-earlier (q .start) (t .start)) (in-exactly-if (q .start) (t .end) (before (q .start) (q .end))) ∙ met-by q t
 inside-related Overlaps q t hs he = ap₂ _&&_ (in-between (q .start) (q .end) (t .start)) (in-later (q .end) (t .end) he)
 inside-related OverlappedBy q t hs he =
     let s = before (t .start) (q .start) in

@@ -1,12 +1,12 @@
 -- The plan of each relationship lies on the ruler, suits its matches, and is quick only where that is right.
-use mathlib.Core.Path.{_≡_, refl}
+use mathlib.Core.Path.{_≡_, refl, sym}
 use mathlib.Core.Bool.{Bool, true, false, _&&_}
 use Prim.Native.Nat.{ℕ, _-_, _^_, _≤_, _<_}
 use native.Mathlib.Nat.{le-antisymm, le-trans}
 use native.Mathlib.Decide.{decLt}
 use native.Mathlib.Omega.{arith}
 use lib.Dec.{T, leb→le, le→leb, ltb→lt, eqb→eq}
-use Rattle.lists.proofs.Tests.{of-and, to-and}
+use Rattle.lists.proofs.Tests.{of-and, to-and, of-three}
 use Rattle.ruler.specs.declared.Time.{Time}
 use Rattle.ruler.specs.Ruler.{Scale, deepest, before, sameTime, noLater, cellOf}
 use Rattle.ruler.proofs.CellLevels.{up-bottom}
@@ -101,8 +101,8 @@ module _ (s : Scale) (fair : Fair s) where
     suits-plan StartedBy = both (sameTime qs ss) (before se qe) (λ x y. within (same qs ss x))
     suits-plan Finishes = both (before ss qs) (sameTime qe se) (λ x y. (same qe se y, same qe se y))
     suits-plan FinishedBy = both (before qs ss) (sameTime qe se) (λ x y. (same qe se y, same qe se y))
-    suits-plan Meets = λ x. within (same qe ss x)
-    suits-plan MetBy = λ x. (same qs se x, same qs se x)
+    suits-plan Meets = λ x. within (same qe ss (of-three (before qs qe) (sameTime qe ss) (before ss se) x .1))
+    suits-plan MetBy = λ x. let y = same se qs (of-three (before ss se) (sameTime se qs) (before qs qe) x .1) in (sym y, sym y)
     suits-plan Overlaps = both (before qs ss && before ss qe) (before qe se)
         (λ x y. (less ss qe (of-and (before qs ss) (before ss qe) x .1), less qe se y))
     suits-plan OverlappedBy = both (before ss qs && before qs se) (before se qe)

@@ -1,6 +1,6 @@
--- Each relationship as bounds on a trip's start and end: the table of document 01, a row for each relationship. That these are its
--- relationships is the law `inside-related`.
-use mathlib.Core.Bool.{Bool, _&&_}
+-- Each relationship as bounds on a trip's start and end: the table of document 01, with document 02's rows, a row for each relationship. That these
+-- are its relationships is the law `inside-related`. A window that is a point meets nothing and is met by nothing: its bounds have no time.
+use mathlib.Core.Bool.{Bool, cond, _&&_}
 use Prim.Native.Nat.{ℕ}
 use Rattle.ruler.specs.declared.Time.{Time}
 use Rattle.ruler.specs.Ruler.{timeAt, before, noLater, nextTime}
@@ -24,6 +24,10 @@ has s t = noLater (s .from) t && before t (s .until)
 
 abbrev pub exactly : Time → Span
 exactly t = span t (nextTime t)
+
+-- that time alone where the test passes, and else no time
+abbrev pub exactlyIf : Bool → Time → Span
+exactlyIf test t = cond test (exactly t) (span t t)
 
 abbrev pub later : Time → Span
 later t = span (nextTime t) (timeAt far)
@@ -56,8 +60,8 @@ boundsOf Starts q = bounds (exactly (q .start)) (later (q .end))
 boundsOf StartedBy q = bounds (exactly (q .start)) (earlier (q .end))
 boundsOf Finishes q = bounds (earlier (q .start)) (exactly (q .end))
 boundsOf FinishedBy q = bounds (later (q .start)) (exactly (q .end))
-boundsOf Meets q = bounds (exactly (q .end)) any
-boundsOf MetBy q = bounds any (exactly (q .start))
+boundsOf Meets q = bounds (exactlyIf (before (q .start) (q .end)) (q .end)) (later (q .end))
+boundsOf MetBy q = bounds (earlier (q .start)) (exactlyIf (before (q .start) (q .end)) (q .start))
 boundsOf Overlaps q = bounds (between (q .start) (q .end)) (later (q .end))
 boundsOf OverlappedBy q = bounds (earlier (q .start)) (between (q .start) (q .end))
 boundsOf Contains q = bounds (later (q .start)) (earlier (q .end))

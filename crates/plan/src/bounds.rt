@@ -5,7 +5,7 @@ use trip::Trip;
 use trip::Window;
 ghost use mathlib.Core.Path.{_≡_};
 ghost use Prim.Native.Nat.{_<_};
-ghost use Rattle.plan.specs.Bounds.{has, bounds, inside, far, exactly, later, earlier, between, since, until, any, boundsOf};
+ghost use Rattle.plan.specs.Bounds.{has, bounds, inside, far, exactly, exactlyIf, later, earlier, between, since, until, any, boundsOf};
 
 // The times from one on, up to another that is not of them.
 pub struct Span {
@@ -29,6 +29,17 @@ impl Span {
             from: t,
             until: t.next(),
         }
+    }
+
+    // That time where the test passes, and no time where it does not.
+    fn exactly_if(test: bool, t: Time) -> Span
+        requires { ⌜ t .0 < far ⌝ }
+        ensures { λ r. ⌜ r ≡ exactlyIf test t ⌝ }
+    {
+        if test {
+            return Span::exactly(t);
+        }
+        Span { from: t, until: t }
     }
 
     fn later(t: Time) -> Span
@@ -127,8 +138,8 @@ pub fn bounds_of(relationship: Relationship, q: Window) -> Bounds
         Relationship::StartedBy => Bounds::new(Span::exactly(s), Span::earlier(e)),
         Relationship::Finishes => Bounds::new(Span::earlier(s), Span::exactly(e)),
         Relationship::FinishedBy => Bounds::new(Span::later(s), Span::exactly(e)),
-        Relationship::Meets => Bounds::new(Span::exactly(e), Span::any()),
-        Relationship::MetBy => Bounds::new(Span::any(), Span::exactly(s)),
+        Relationship::Meets => Bounds::new(Span::exactly_if(s.before(e), e), Span::later(e)),
+        Relationship::MetBy => Bounds::new(Span::earlier(s), Span::exactly_if(s.before(e), s)),
         Relationship::Overlaps => Bounds::new(Span::between(s, e), Span::later(e)),
         Relationship::OverlappedBy => Bounds::new(Span::earlier(s), Span::between(s, e)),
         Relationship::Contains => Bounds::new(Span::later(s), Span::earlier(e)),

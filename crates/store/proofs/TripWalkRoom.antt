@@ -1,18 +1,15 @@
 -- How many entries more a table has with one trip more: one in each slot of the trip's walk. What the test of the arenas' room adds up.
-use mathlib.Core.Path.{_≡_, refl, ap, _∙_}
+use mathlib.Core.Path.{_≡_, refl, sym, ap, _∙_}
 use mathlib.Core.Bool.{Bool, true, false}
 use mathlib.Core.List.{List, [], _∷_}
 use Prim.Native.Nat.{ℕ, zero, suc, _+_, _*_, _^_, _<_}
-use native.Mathlib.Nat.{not-suc-le-zero}
-use native.Mathlib.Decide.{ℕ-discrete}
 use native.Mathlib.Omega.{arith}
-use lib.Dec.{eqb, eqb→eq}
+use lib.Dec.{eqb, eqb→eq, eqb-refl}
 use lib.ListN.{length, length-append}
-use borrow.Author.Tests.{eq-eqb, ne-eqb}
-use Rattle.lists.specs.Lists.{consIf, keep, joined, oneMore, count, sumOver}
+use Rattle.lists.specs.Lists.{consIf, keep, joined, count, sumTo, sumOver}
 use Rattle.lists.proofs.Members.{length-sort}
-use Rattle.lists.proofs.Counts.{count-none}
-use Rattle.lists.proofs.Sums.{sumTo, exchange}
+use Rattle.lists.proofs.Counts.{count-one}
+use Rattle.lists.proofs.Sums.{exchange}
 use Rattle.ruler.specs.Ruler.{Scale}
 use Rattle.trip.specs.declared.Trip.{Trip}
 use Rattle.layout.specs.declared.Half.{Half}
@@ -22,19 +19,11 @@ use Rattle.store.proofs.TripWalk.{those, walk-once, walk-below}
 use Rattle.layout.proofs.SlotMembers.{inSlot}
 
 -- each number below n stands once among 0 .. n - 1
-count-one : (c n : ℕ) → c < n → count (λ k. eqb c k) n ≡ 1
-unfolding count
-count-one c zero h = absurd (not-suc-le-zero h)
-count-one c (suc n) h = go (ℕ-discrete c n) (count-one c n)
-  where
-    go : Dec (c ≡ n) → (c < n → count (λ k. eqb c k) n ≡ 1) → oneMore (eqb c n) (count (λ k. eqb c k) n) ≡ 1
-    go (yes e) ih = rw (eq-eqb c n e) (ap suc (count-none (λ k. eqb c k) n (λ i l q. let z = eqb→eq c i q in omega arith)))
-    go (no e) ih = rw (ne-eqb c n e) (ih (omega arith))
-
 ones : {n : ℕ} {l : List ℕ} → Below n l → sumOver (λ c. count (λ k. eqb c k) n) l ≡ length l
 unfolding sumOver
 ones none = refl
-ones {n} (also {c = c} p b) = omega (arith, count-one c n p, ones b)
+ones {n} (also {c = c} p b) =
+    let once = count-one (λ k. eqb c k) n c p (eqb-refl c) (λ j l t. sym (eqb→eq c j t)) in omega (arith, ones b)
 
 -- so the walk is as long as its slots, counted
 walk-counted : {n : ℕ} {l : List ℕ} → Below n l → sumTo (λ k. length (those k l)) n ≡ length l

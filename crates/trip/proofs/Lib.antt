@@ -2,3 +2,5 @@
 pub mod SameWords
 pub mod Codes
 pub mod Naming
+pub mod ExactlyOne
+pub mod CountsAddUp

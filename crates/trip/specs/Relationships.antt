@@ -1,5 +1,6 @@
--- Document 01, "Relationships, question q against trip s", as definitions. Every test is a Bool and computes.
-use mathlib.Core.Bool.{Bool, _&&_}
+-- Document 01, "Relationships, question q against trip s", as definitions, with document 02's rows for MEETS and MET_BY (T-02). Every test is a
+-- Bool and computes.
+use mathlib.Core.Bool.{Bool, false, _&&_}
 use mathlib.Core.List.{List, [], _∷_}
 use Prim.Native.Nat.{ℕ}
 use lib.ListN.{getD}
@@ -53,15 +54,16 @@ inOrder =
 abbrev pub named : (code : ℕ) → Named
 named code = getD inOrder code Nothing
 
--- the column "Holds when": the window q against the trip s
+-- the column "Holds when": the window q against the trip s. "MEETS shall hold when q.st < q.end = s.st < s.end, and MET_BY when
+-- s.st < s.end = q.st < q.end."
 unfoldable pub related : Relationship → Window → Trip → Bool
 related Equals q s = sameTime (q .start) (s .start) && sameTime (q .end) (s .end)
 related Starts q s = sameTime (q .start) (s .start) && before (q .end) (s .end)
 related StartedBy q s = sameTime (q .start) (s .start) && before (s .end) (q .end)
 related Finishes q s = before (s .start) (q .start) && sameTime (q .end) (s .end)
 related FinishedBy q s = before (q .start) (s .start) && sameTime (q .end) (s .end)
-related Meets q s = sameTime (q .end) (s .start)
-related MetBy q s = sameTime (q .start) (s .end)
+related Meets q s = before (q .start) (q .end) && sameTime (q .end) (s .start) && before (s .start) (s .end)
+related MetBy q s = before (s .start) (s .end) && sameTime (s .end) (q .start) && before (q .start) (q .end)
 related Overlaps q s = before (q .start) (s .start) && before (s .start) (q .end) && before (q .end) (s .end)
 related OverlappedBy q s = before (s .start) (q .start) && before (q .start) (s .end) && before (s .end) (q .end)
 related Contains q s = before (q .start) (s .start) && before (s .end) (q .end)
@@ -69,3 +71,17 @@ related ContainedBy q s = before (s .start) (q .start) && before (q .end) (s .en
 related Before q s = before (q .end) (s .start)
 related After q s = before (s .end) (q .start)
 related GOverlaps q s = noLater (q .start) (s .end) && noLater (s .start) (q .end)
+
+-- ---- "exactly one of codes 0 to 12 holds for any window and trip" (T-02; the law `exactly-one`)
+
+-- the codes 0 to 12 are those below
+abbrev pub thirteen : ℕ
+thirteen = 13
+
+-- whether what a code names holds; a code that names nothing holds of nothing
+unfoldable pub holdsBy : Named → Window → Trip → Bool
+holdsBy (As r) q s = related r q s
+holdsBy Nothing q s = false
+
+abbrev pub codeHolds : (code : ℕ) → Window → Trip → Bool
+codeHolds code = holdsBy (named code)

@@ -3,12 +3,15 @@
 use crate::call::Call;
 use crate::faults::with_fault;
 use crate::generate::pieces::cut_into_pieces;
+use crate::generate::rounds::rounds;
 use crate::generate::sessions::session_input;
 use crate::generate::{bad_probe_line, Calls, Size, FULL, SMALL};
+use crate::model::relation::CODES;
 use crate::options::Options;
 use crate::program::{answers_of, end_of, run_session, start};
 use crate::random::Random;
 use crate::session::session;
+use crate::sums::Sums;
 use crate::tally::Tally;
 use std::io::{self, BufWriter, Write};
 use std::thread;
@@ -25,22 +28,26 @@ pub fn compare(probe: &str, program: &str, seed: u64, many: usize, options: &Opt
     Ok(closed(&calls, &sessions))
 }
 
-/// The whole trial of both programs: small calls, one in twenty as many large ones, and sessions. Each call must have
-/// met each number that it can answer.
+/// The whole trial of both programs: small calls, one in twenty as many large ones, windows under every code, and
+/// sessions. Each call must have met each number that it can answer, and the counts of each window add up.
 pub fn agree(probe: &str, program: &str, seed: u64, many: usize, options: &Options) -> io::Result<bool> {
     let mut calls = compare_calls(probe, seed, many, SMALL, options)?;
     calls.join(compare_calls(probe, seed + 1, many / LARGE_ONES, FULL, options)?);
+    let (rounds, sums) = compare_rounds(probe, seed + 2, many / ROUNDS, options)?;
+    calls.join(rounds);
     let sessions = compare_sessions(program, seed, options)?;
     calls.tally.print();
+    println!("windows under every code: the counts of {} of {} add up", sums.right, sums.right + sums.wrong);
     let missing = calls.tally.missing();
     for text in &missing {
         println!("{}", text);
     }
-    Ok(closed(&calls, &sessions) && missing.is_empty())
+    Ok(closed(&calls, &sessions) && missing.is_empty() && sums.wrong == 0)
 }
 
-/// One large call for so many small ones.
+/// One large call, and one window under every code, for so many small calls.
 const LARGE_ONES: usize = 20;
+const ROUNDS: usize = 50;
 
 fn closed(calls: &Score, sessions: &Score) -> bool {
     println!(
@@ -149,9 +156,35 @@ impl Iterator for Lines {
 }
 
 fn compare_calls(command: &str, seed: u64, many: usize, size: Size, options: &Options) -> io::Result<Score> {
+    let row = || Lines::new(seed, many, size, options);
+    compare_lines(command, &format!("seed {}", seed), many, row, options, |_, _| {})
+}
+
+fn compare_rounds(command: &str, seed: u64, many: usize, options: &Options) -> io::Result<(Score, Sums)> {
+    let mut sums = Sums::default();
+    let row = || rounds(seed).take(many).flatten().map(ProbeLine::Good);
+    let name = format!("the rounds of seed {}", seed);
+    let score = compare_lines(command, &name, many * CODES as usize, row, options, |call, given| sums.see(call, given))?;
+    Ok((score, sums))
+}
+
+/// Sends the lines of a row, which is drawn twice, to a program; `seen` is shown each call with the program's own answer.
+fn compare_lines<Draw, Row, Seen>(
+    command: &str,
+    name: &str,
+    many: usize,
+    row: Draw,
+    options: &Options,
+    mut seen: Seen,
+) -> io::Result<Score>
+where
+    Draw: Fn() -> Row,
+    Row: Iterator<Item = ProbeLine> + Send + 'static,
+    Seen: FnMut(&Call, &str),
+{
     let mut child = start(command)?;
     let input = child.stdin.take();
-    let sent = Lines::new(seed, many, size, options);
+    let sent = row();
     // The writer must not wait for answers, nor the reader for the writer: else both could stand still.
     // It is not waited for either, as a program that hangs may never read on.
     thread::spawn(move || {
@@ -162,24 +195,28 @@ fn compare_calls(command: &str, seed: u64, many: usize, size: Size, options: &Op
     });
     let answers = answers_of(&mut child);
     let mut score = Score::default();
-    for (k, line) in Lines::new(seed, many, size, options).enumerate() {
-        let (input, expected) = match line {
+    for (k, line) in row().enumerate() {
+        let (input, expected) = match &line {
             ProbeLine::Good(call) => {
                 let answer = with_fault(options.fault, || call.answer());
-                score.tally.count(&call, &answer);
+                score.tally.count(call, &answer);
                 (call.line(), answer)
             }
-            ProbeLine::Bad(text) => (text, "bad line".to_string()),
+            ProbeLine::Bad(text) => (text.clone(), "bad line".to_string()),
         };
+        let what = format!("call {} of {}", k, name);
         let given = match answers.recv_timeout(Duration::from_secs(options.wait)) {
             Ok(given) => given,
             Err(_) => {
-                score.count(&format!("call {} of seed {}", k, seed), &input, &expected, "(no answer)");
+                score.count(&what, &input, &expected, "(no answer)");
                 score.differed += many - score.all();
                 break;
             }
         };
-        score.count(&format!("call {} of seed {}", k, seed), &input, &expected, &given);
+        if let ProbeLine::Good(call) = &line {
+            seen(call, &given);
+        }
+        score.count(&what, &input, &expected, &given);
     }
     if score.differed == 0 {
         let after = end_of(&mut child, &answers, options.wait)?;
@@ -192,7 +229,7 @@ fn compare_calls(command: &str, seed: u64, many: usize, size: Size, options: &Op
     Ok(score)
 }
 
-fn write_lines<W: Write>(input: W, lines: Lines) -> io::Result<()> {
+fn write_lines<W: Write>(input: W, lines: impl Iterator<Item = ProbeLine>) -> io::Result<()> {
     let mut input = BufWriter::new(input);
     for line in lines {
         match line {

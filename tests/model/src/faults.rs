@@ -19,6 +19,8 @@ pub enum Fault {
     LostDetail,
     ReplicasListed,
     CellsCompared,
+    OldMeets,
+    OldMetBy,
     OldWords,
     EndOfSlot,
     SpareUnchecked,
@@ -27,7 +29,7 @@ pub enum Fault {
 }
 
 /// Name, fault, and what goes wrong.
-pub const FAULTS: [(&str, Fault, &str); 17] = [
+pub const FAULTS: [(&str, Fault, &str); 19] = [
     ("tie-order", Fault::TieOrder, "equal starts in a slot of originals stand by falling id"),
     ("aft-by-start", Fault::AftByStart, "R_aft is ordered by start then id"),
     ("in-by-start", Fault::InByStart, "R_in is ordered by start then id"),
@@ -40,6 +42,8 @@ pub const FAULTS: [(&str, Fault, &str); 17] = [
     ("lost-detail", Fault::LostDetail, "refusal 7 of a question has no detail"),
     ("replicas-listed", Fault::ReplicasListed, "code 13 lists a trip once for each relevant partition"),
     ("cells-compared", Fault::CellsCompared, "code 13 compares cells in place of times"),
+    ("old-meets", Fault::OldMeets, "MEETS lists timing points, and what starts where a window of one second is"),
+    ("old-met-by", Fault::OldMetBy, "MET_BY lists timing points, and what ends where a window of one second is"),
     ("old-words", Fault::OldWords, "a removal leaves the old last words behind"),
     ("end-of-slot", Fault::EndOfSlot, "an added trip goes to the end of its slots"),
     ("spare-unchecked", Fault::SpareUnchecked, "the check does not look at words after the last entry"),

@@ -10,6 +10,7 @@ mod program;
 mod random;
 mod selftest;
 mod session;
+mod sums;
 mod tally;
 mod trials;
 mod vectors;
@@ -18,8 +19,9 @@ use options::Options;
 use std::io::{self, BufRead, Read, Write};
 use std::process::exit;
 
-const USAGE: &str = "model vectors SEED N [--small] [--each K]
-    prints N calls, each followed by a line with the expected answer; at most K of one call with one number
+const USAGE: &str = "model vectors SEED N [--small] [--each K] [--every-code]
+    prints N calls, each followed by a line with the expected answer; at most K of one call with one number; then every window of a
+    small ruler under every code, over every trip that it has
 model calls OUT_IN OUT_EXPECTED SEED N [--small]
     the same in two files: the calls, and the expected answers
 model sessions DIR SEED N
@@ -27,7 +29,8 @@ model sessions DIR SEED N
 model compare PROBE SESSION SEED N [--small] [--sessions K] [--wait SECONDS] [--bad-lines]
     runs both programs and compares all they answer; - in place of a program leaves it out
 model agree PROBE SESSION SEED N [--sessions K] [--wait SECONDS] [--bad-lines]
-    the same with N small calls and N / 20 large ones; prints how often each call had each number, and fails where one never came
+    the same with N small calls, N / 20 large ones and N / 50 windows under every code; prints how often each call had each number, and
+    fails where one never came, and where the counts of a window do not add up
 model selftest
     tries the model itself
 model faults SEED N [--small]

@@ -14,17 +14,28 @@ pub struct Options {
     pub bad_lines: bool,
     /// The most vectors of one call with one number.
     pub each: usize,
+    /// Whether vectors of every window under every code follow.
+    pub every_code: bool,
 }
 
 impl Options {
     pub fn read() -> Result<Options, String> {
-        let mut options =
-            Options { words: Vec::new(), size: FULL, fault: None, sessions: 200, wait: 300, bad_lines: false, each: usize::MAX };
+        let mut options = Options {
+            words: Vec::new(),
+            size: FULL,
+            fault: None,
+            sessions: 200,
+            wait: 300,
+            bad_lines: false,
+            each: usize::MAX,
+            every_code: false,
+        };
         let mut rest = env::args().skip(1);
         while let Some(word) = rest.next() {
             match word.as_str() {
                 "--small" => options.size = SMALL,
                 "--bad-lines" => options.bad_lines = true,
+                "--every-code" => options.every_code = true,
                 "--fault" => options.fault = Some(fault(rest.next())?),
                 "--sessions" => options.sessions = number(rest.next())? as usize,
                 "--each" => options.each = number(rest.next())? as usize,

@@ -1,14 +1,19 @@
 //! Calls and sessions with what the model expects, printed or as files.
 
 use crate::faults::with_fault;
+use crate::generate::rounds::every_window_of;
 use crate::generate::sessions::session_input;
 use crate::generate::Calls;
 use crate::options::Options;
+use crate::random::Random;
 use crate::session::session;
 use crate::tally::Tally;
 use std::fs::{create_dir_all, write, File};
 use std::io::{self, BufWriter, Write};
 use std::path::Path;
+
+/// The narrowest ruler on which a window meets a trip. One level will do: a relationship knows nothing of levels.
+const SMALL_RULER: (u32, u32) = (2, 0);
 
 pub fn print(seed: u64, many: usize, options: &Options) -> io::Result<bool> {
     let output = io::stdout();
@@ -24,6 +29,12 @@ pub fn print(seed: u64, many: usize, options: &Options) -> io::Result<bool> {
             tally.count(&call, &expected);
             left -= 1;
             writeln!(output, "{}\n{}", call.line(), expected)?;
+        }
+    }
+    if options.every_code {
+        let (w, m) = SMALL_RULER;
+        for call in every_window_of(&mut Random::new(seed), w, m).iter().flatten() {
+            writeln!(output, "{}\n{}", call.line(), with_fault(options.fault, || call.answer()))?;
         }
     }
     output.flush()?;

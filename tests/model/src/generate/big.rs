@@ -75,7 +75,7 @@ fn build_call(random: &mut Random, w: u32, m: u32, table: Vec<u32>, originals: u
 }
 
 /// Trips of a few cells at most, as long ones would need more replicas than a probe must hold.
-fn short_trips(random: &mut Random, w: u32, m: u32, many: usize) -> Vec<Trip> {
+pub fn short_trips(random: &mut Random, w: u32, m: u32, many: usize) -> Vec<Trip> {
     let last = (1u32 << w) - 1;
     let longest = (1u32 << (w - m)).saturating_mul(3);
     let mut found = Vec::new();

@@ -12,6 +12,7 @@ mod longest;
 mod made;
 pub mod pieces;
 mod questions;
+pub mod rounds;
 mod rulers;
 mod rows;
 mod session_lines;

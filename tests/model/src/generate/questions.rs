@@ -4,15 +4,12 @@ use super::buffers::dirty;
 use super::made::{made, made_of, Made};
 use super::rulers::width;
 use super::size::Size;
-use super::tables::{ids, spread_trips};
-use super::times::window;
+use super::tables::{every_trip, spread_trips};
+use super::times::{every_span, window};
 use crate::call::{Call, Request};
 use crate::model::ask::matches;
-use crate::model::relation::CODES;
-use crate::model::trip::Trip;
+use crate::model::relation::{CODES, G_OVERLAPS};
 use crate::random::Random;
-
-const G_OVERLAPS: u32 = 13;
 
 pub fn scene(random: &mut Random, size: Size) -> Vec<Call> {
     let made = made(random, size);
@@ -33,14 +30,8 @@ pub fn crowd_scene(random: &mut Random, size: Size) -> Vec<Call> {
 pub fn every_trip_scene(random: &mut Random, size: Size) -> Vec<Call> {
     let w = random.between(1, if size.big { 3 } else { 2 });
     let m = random.between(0, w);
-    let mut spans = Vec::new();
-    for start in 0..1u32 << w {
-        for end in start..1u32 << w {
-            spans.push((start, end));
-        }
-    }
-    let names = ids(random, spans.len());
-    let trips = (0..spans.len()).map(|k| Trip { id: names[k], start: spans[k].0, end: spans[k].1 }).collect();
+    let spans = every_span(w);
+    let trips = every_trip(random, w);
     let made = made_of(random, size, w, m, trips);
     let mut calls = Vec::new();
     for _ in 0..20 {

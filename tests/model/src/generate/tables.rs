@@ -1,6 +1,6 @@
 //! Lawful tables: times on the ruler, no trip backward, no id twice.
 
-use super::times::span;
+use super::times::{every_span, span};
 use crate::model::trip::Trip;
 use crate::random::Random;
 
@@ -64,6 +64,13 @@ pub fn longest_trips(random: &mut Random, w: u32, m: u32, many: usize) -> Vec<Tr
         found.push(Trip { id, start, end });
     }
     found
+}
+
+/// Every trip that a ruler of this width has, points too.
+pub fn every_trip(random: &mut Random, w: u32) -> Vec<Trip> {
+    let spans = every_span(w);
+    let names = ids(random, spans.len());
+    spans.iter().zip(names).map(|(&(start, end), id)| Trip { id, start, end }).collect()
 }
 
 /// Ids without a repetition, in several manners: rising, falling, mixed, any words, and the extremes.

@@ -64,6 +64,12 @@ pub fn span(random: &mut Random, w: u32, m: u32, known: &[u32]) -> (u32, u32) {
     in_order(first, second)
 }
 
+/// All of them that a ruler of this width has.
+pub fn every_span(w: u32) -> Vec<(u32, u32)> {
+    let times = 1u32 << w;
+    (0..times).flat_map(|start| (start..times).map(move |end| (start, end))).collect()
+}
+
 pub fn times_of(trips: &[Trip]) -> Vec<u32> {
     let mut times = Vec::new();
     for trip in trips {

@@ -7,18 +7,20 @@ mod places;
 mod properties;
 mod readings;
 mod report;
+mod rounds;
 mod search;
 mod sessions;
 
 use self::report::Report;
 
 pub fn selftest() -> bool {
-    let groups: [(&str, fn(&mut Report)); 8] = [
+    let groups: [(&str, fn(&mut Report)); 9] = [
         ("examples of document 01", examples::examples),
         ("readings of unclear places", readings::readings),
         ("session program", sessions::sessions),
         ("partitions of a trip", places::places_of_trips),
         ("builds, edits and questions", properties::properties),
+        ("a window under every code", rounds::every_code),
         ("refusal 8 against a search of all tables", search::search),
         ("refusal 8 against conditions on the words", conditions::conditions),
         ("drawn calls", generator::generator),

@@ -102,8 +102,8 @@ fn questions_equal_a_scan(report: &mut Report, random: &mut Random, made: &Made)
     }
 }
 
-/// The relationships said a second time, by how start stands to start, end to end and so on. Each of the
-/// first thirteen is one of Allen's, so the four comparisons settle it.
+/// The relationships said a second time, by how start stands to start, end to end and so on. The first thirteen
+/// are Allen's, so the four comparisons settle which of them it is, of points too.
 fn stands_so(code: u32, start: u32, end: u32, trip: &Trip) -> bool {
     use self::Ordering::{Equal, Greater, Less};
     let starts = start.cmp(&trip.start);
@@ -116,8 +116,8 @@ fn stands_so(code: u32, start: u32, end: u32, trip: &Trip) -> bool {
         2 => (starts, ends) == (Equal, Greater),
         3 => (starts, ends) == (Greater, Equal),
         4 => (starts, ends) == (Less, Equal),
-        5 => end_to_start == Equal,
-        6 => start_to_end == Equal,
+        5 => (starts, ends, end_to_start) == (Less, Less, Equal),
+        6 => (starts, ends, start_to_end) == (Greater, Greater, Equal),
         7 => (starts, ends, end_to_start) == (Less, Less, Greater),
         8 => (starts, ends, start_to_end) == (Greater, Greater, Less),
         9 => (starts, ends) == (Less, Greater),

@@ -6,7 +6,7 @@ use crate::random::Random;
 use crate::session::session;
 
 pub fn sessions(report: &mut Report) {
-    let right: &[u8] = b"ok\nok\nok\nok\nok\n2 7 9\n3 4 7 9\n1 3\nok\n3 4 7 9\nrefused 5\n";
+    let right: &[u8] = b"ok\nok\nok\nok\nok\n2 7 9\n3 4 7 9\n0\nok\n3 4 7 9\nrefused 5\n";
     report.expect(session(EXAMPLE) == right, "the example");
     report.expect(session(&EXAMPLE[..EXAMPLE.len() - 1]) == right, "the example without its last newline");
 
@@ -58,8 +58,8 @@ fn full(report: &mut Report) {
         input.extend(format!("T {} 65536 16711679\n", id).as_bytes());
         right.extend(b"ok\n");
     }
-    input.extend(b"T 256 1 1\nT 0 1 1\nT 256 2 1\nT 256 16777216 1\nX 0\nT 256 1 1\nT 257 1 1\nQ 5 0 1\n");
-    right.extend(b"refused 7\nrefused 6\nrefused 5\nrefused 4\nok\nok\nrefused 7\n1 256\n");
+    input.extend(b"T 256 1 1\nT 0 1 1\nT 256 2 1\nT 256 16777216 1\nX 0\nT 256 1 1\nT 257 1 1\nQ 4 0 1\nQ 5 0 1\n");
+    right.extend(b"refused 7\nrefused 6\nrefused 5\nrefused 4\nok\nok\nrefused 7\n1 256\n0\n");
     report.expect(session(&input) == right, "a full session");
 }
 

@@ -15,8 +15,8 @@ bounds-of-spec =
     (λ c. search needs) (λ c κs. search needs) (λ c κs. search needs) (λ c κs. search needs)
     (λ c. search needs) (λ c κs. search needs) (λ c κs. search needs) (λ c κs. search needs)
     (λ c. search needs) (λ c κs. search needs) (λ c κs. search needs) (λ c κs. search needs)
-    (λ c. search needs) (λ c κs. search needs) (λ c κs. search needs) (λ c κs. search needs)
-    (λ c. search needs) (λ c κs. search needs) (λ c κs. search needs) (λ c κs. search needs)
+    (λ c. search needs) (λ c κs. search needs) (λ c κs. search needs) (λ c κs. search needs) (λ c κs. search needs)
+    (λ c. search needs) (λ c κs. search needs) (λ c κs. search needs) (λ c κs. search needs) (λ c κs. search needs)
     (λ c. search needs) (λ c κs. search needs) (λ c κs. search needs) (λ c κs. search needs)
     (λ c. search needs) (λ c κs. search needs) (λ c κs. search needs) (λ c κs. search needs)
     (λ c. search needs) (λ c κs. search needs) (λ c κs. search needs) (λ c κs. search needs)
@@ -43,32 +43,41 @@ bounds-of-spec =
       c .before .exactly6 .ensures,
       c .before .before .later2 .ensures,
     ) refl)
-    (λ c. c .new6 .ensures ∙ rw (c .before .before .before .enum-told6 .given .1, c .before .any .ensures, c .before .before .exactly7 .ensures) refl)
-    (λ c. c .new7 .ensures ∙ rw (c .before .before .before .enum-told7 .given .1, c .before .exactly8 .ensures, c .before .before .any2 .ensures)
-    refl)
-    (λ c. c .new8 .ensures ∙ rw (c .before .before .before .enum-told8 .given .1, c .before .later3 .ensures, c .before .before .between .ensures)
+    (λ c. c .new6 .ensures ∙ rw (
+      c .before .before .before .before .enum-told6 .given .1,
+      c .before .later3 .ensures,
+      c .before .before .exactly-if .ensures,
+      c .before .before .before .before2 .ensures,
+    ) refl)
+    (λ c. c .new7 .ensures ∙ rw (
+      c .before .before .before .before .enum-told7 .given .1,
+      c .before .exactly-if2 .ensures,
+      c .before .before .before3 .ensures,
+      c .before .before .before .earlier3 .ensures,
+    ) refl)
+    (λ c. c .new8 .ensures ∙ rw (c .before .before .before .enum-told8 .given .1, c .before .later4 .ensures, c .before .before .between .ensures)
     refl)
     (λ c. c .new9 .ensures ∙ rw (
       c .before .before .before .enum-told9 .given .1,
       c .before .between2 .ensures,
-      c .before .before .earlier3 .ensures,
+      c .before .before .earlier4 .ensures,
     ) refl)
     (λ c. c .new10 .ensures ∙ rw (
       c .before .before .before .enum-told10 .given .1,
-      c .before .earlier4 .ensures,
-      c .before .before .later4 .ensures,
+      c .before .earlier5 .ensures,
+      c .before .before .later5 .ensures,
     ) refl)
     (λ c. c .new11 .ensures ∙ rw (
       c .before .before .before .enum-told11 .given .1,
-      c .before .later5 .ensures,
-      c .before .before .earlier5 .ensures,
+      c .before .later6 .ensures,
+      c .before .before .earlier6 .ensures,
     ) refl)
-    (λ c. c .new12 .ensures ∙ rw (c .before .before .before .enum-told12 .given .1, c .before .any3 .ensures, c .before .before .later6 .ensures)
+    (λ c. c .new12 .ensures ∙ rw (c .before .before .before .enum-told12 .given .1, c .before .any .ensures, c .before .before .later7 .ensures)
     refl)
     (λ c. c .new13 .ensures ∙ rw (
       c .before .before .before .enum-told13 .given .1,
-      c .before .earlier6 .ensures,
-      c .before .before .any4 .ensures,
+      c .before .earlier7 .ensures,
+      c .before .before .any2 .ensures,
     ) refl)
     (λ c. c .new14 .ensures ∙ rw (c .before .before .before .enum-told14 .given .1, c .before .since .ensures, c .before .before .until .ensures)
     refl))

@@ -1,0 +1,78 @@
+-- Document 02, T-02: "exactly one of codes 0 to 12 holds for any window and trip, points too, so the thirteen counts for a window add up to the table's
+-- trips."
+use mathlib.Core.Path.{_≡_, refl, sym, _∙_}
+use mathlib.Core.Bool.{not, _&&_}
+use mathlib.Core.List.{List, List·Memᴰ as Mem}
+use Prim.Native.Nat.{ℕ, _≤_, _<_}
+use native.Mathlib.Omega.{arith}
+use lib.Dec.{T}
+use lib.ListN.{length}
+use borrow.Author.Tests.{ltb-true}
+use Rattle.lists.specs.Lists.{sumTo, keep}
+use Rattle.lists.proofs.Sums.{sum-ext}
+use Rattle.ruler.specs.declared.Numbers.{Numbers}
+use Rattle.ruler.specs.Ruler.{scaleOf}
+use Rattle.trip.specs.declared.Trip.{Trip}
+use Rattle.trip.specs.declared.Window.{Window}
+use Rattle.trip.specs.declared.Relationship.the-variants.{Before, After, GOverlaps}
+use Rattle.trip.specs.declared.Named.{Named}
+use Rattle.trip.specs.declared.Named.the-variants.{As, Nothing}
+use Rattle.trip.specs.Relationships.{codeOf, lastCode, named, related, thirteen, holdsBy, codeHolds}
+use Rattle.trip.specs.Trips.{windowOf, askingOf}
+use Rattle.trip.proofs.Naming.{nothing-above}
+use Rattle.trip.proofs.ExactlyOne as trips
+use Rattle.trip.proofs.CountsAddUp.{thirteen-kept, overlapping-kept}
+use Rattle.layout.specs.declared.Outcome.the-variants.{Accepted}
+use Rattle.layout.specs.Words.{rows, Index}
+use Rattle.layout.specs.Refusals.{IndexOf}
+use Rattle.layout.specs.Calls.{Asked, askOf}
+use Rattle.layout.proofs.Indexes.{given-table, given-fair}
+use Rattle.layout.proofs.Given.{asked-on-ruler, given-count}
+
+-- ---- a window and a trip, neither of them backward
+
+-- there is a code that holds, and any code that holds is that code
+pub exactly-one : (q : Window) (t : Trip) → q .start .0 ≤ q .end .0 → t .start .0 ≤ t .end .0
+    → (code : ℕ) × (code < thirteen) × T (codeHolds code q t) × ((other : ℕ) → other < thirteen → T (codeHolds other q t) → other ≡ code)
+exactly-one = trips.exactly-one
+
+-- G-OVERLAPS in terms of the thirteen: it holds exactly where neither BEFORE nor AFTER does
+pub overlaps-exactly : (q : Window) (t : Trip) → related GOverlaps q t ≡ (not (related Before q t) && not (related After q t))
+overlaps-exactly = trips.neither-before-nor-after
+
+-- ---- a table and a window: what the questions of all codes are told, each with a list of its own
+
+module _ (n : Numbers) (x : Index) (table : List ℕ) (g : IndexOf (scaleOf n) table x) (start end : ℕ) (lists : (code : ℕ) → List ℕ) where
+  abbrev told : (code : ℕ) → Asked
+  told code = askOf (scaleOf n) x (askingOf code start end) (lists code)
+
+  holding : (code : ℕ) → code ≤ lastCode → told code .outcome ≡ Accepted → told code .count
+      ≡ length (keep (codeHolds code (windowOf start end)) (rows table))
+  unfolding askOf
+  holding code h accepted = go (named code) refl
+    where
+      go : (what : Named) → named code ≡ what → told code .count ≡ length (keep (codeHolds code (windowOf start end)) (rows table))
+      go (As r) is = given-count (scaleOf n) (given-fair n table x g) table x g (askingOf code start end) r is (lists code) accepted
+      go Nothing is = absurd (omega (arith, ltb-true lastCode code (nothing-above code is)))
+
+  forward : (code : ℕ) → told code .outcome ≡ Accepted → start ≤ end
+  unfolding askOf
+  forward code accepted = asked-on-ruler (scaleOf n) x (askingOf code start end) (length (lists code)) accepted .ordered
+
+  runs : (t : Trip) → Mem t (rows table) → t .start .0 ≤ t .end .0
+  runs t m = given-table (scaleOf n) table x g .rowsOk .fits t m .ordered
+
+  -- "the thirteen counts for a window add up to the table's trips"
+  pub thirteen-counts : ((code : ℕ) → code < thirteen → told code .outcome ≡ Accepted) → sumTo (λ code. told code .count) thirteen ≡ length (rows table)
+  thirteen-counts accepted =
+      sum-ext _ _ thirteen (λ code h. holding code (omega arith) (accepted code h))
+      ∙ thirteen-kept (windowOf start end) (forward 0 (accepted 0 (omega arith))) (rows table) runs
+
+  -- and those of the codes below BEFORE's to that of G-OVERLAPS
+  pub overlapping-counts : ((code : ℕ) → code ≤ lastCode → told code .outcome ≡ Accepted)
+      → sumTo (λ code. told code .count) (codeOf Before) ≡ told (codeOf GOverlaps) .count
+  unfolding codeOf holdsBy
+  overlapping-counts accepted =
+      sum-ext _ _ (codeOf Before) (λ code h. holding code (omega arith) (accepted code (omega arith)))
+      ∙ overlapping-kept (windowOf start end) (forward 0 (accepted 0 (omega arith))) (rows table) runs
+      ∙ sym (holding (codeOf GOverlaps) (omega arith) (accepted (codeOf GOverlaps) (omega arith)))
