@@ -59,6 +59,18 @@ static void census(words x, const char *name) {
     }
 }
 
+/* How many trips stand under each of codes 0 to 12. Exactly one of them holds for a trip, a timing point too, so they are all trips. */
+static void every_code(words x, uint32_t start, uint32_t end) {
+    uint32_t ids[ANSWERS], trips = 0;
+    printf("from %u to %u, code by code:", start, end);
+    for (uint32_t code = KHEYAMBO_EQUALS; code <= KHEYAMBO_AFTER; code++) {
+        kheyambo_told told = kheyambo_ask(W, M, code, start, end, INDEX(x), ids, ANSWERS);
+        printf(" %u", told.count);
+        trips += told.count;
+    }
+    printf(", %u trips in all\n", trips);
+}
+
 /* A level-10 partition is 256 seconds: the trips that start in one and end after it. */
 static void run(words x, uint32_t level, uint32_t at) {
     kheyambo_shown shown = kheyambo_run(W, M, level, at >> (W - M), KHEYAMBO_O_AFT, INDEX(x));
@@ -107,6 +119,8 @@ int main(void) {
     under_way(x, AT(1, 10), AT(1, 5));
     said("trip 117 out", kheyambo_remove(W, M, 117, INDEX(x)));
     said("trip 117 out again", kheyambo_remove(W, M, 117, INDEX(x)));
+    said("a timing point", kheyambo_add(W, M, 205, AT(25, 40), AT(25, 40), INDEX(x)));
+    every_code(x, AT(25, 20), AT(25, 40));
     said("check", kheyambo_check(W, M, INDEX(x)));
     census(x, "census");
     run(x, M, AT(22, 50));

@@ -53,7 +53,8 @@ static inline size_t kheyambo_replicas_words(uint32_t m, size_t trips) {
     return KHEYAMBO_ENTRY_WORDS * (kheyambo_most_entries(m) - 1) * trips;
 }
 
-/* ---- The relationships, question q against trip s */
+/* ---- The relationships, question q against trip s. Of codes 0 to 12 exactly one holds for each trip, also where the trip or the window starts and
+   ends in one second: so the thirteen counts of a window add up to the trips of the index, and those of codes 0 to 10 to the count of code 13. */
 
 enum {
     KHEYAMBO_EQUALS = 0,         /* q.st = s.st, q.end = s.end */
@@ -61,8 +62,8 @@ enum {
     KHEYAMBO_STARTED_BY = 2,     /* q.st = s.st, q.end > s.end */
     KHEYAMBO_FINISHES = 3,       /* q.st > s.st, q.end = s.end */
     KHEYAMBO_FINISHED_BY = 4,    /* q.st < s.st, q.end = s.end */
-    KHEYAMBO_MEETS = 5,          /* q.end = s.st */
-    KHEYAMBO_MET_BY = 6,         /* q.st = s.end */
+    KHEYAMBO_MEETS = 5,          /* q.st < q.end = s.st < s.end */
+    KHEYAMBO_MET_BY = 6,         /* s.st < s.end = q.st < q.end */
     KHEYAMBO_OVERLAPS = 7,       /* q.st < s.st < q.end < s.end */
     KHEYAMBO_OVERLAPPED_BY = 8,  /* s.st < q.st < s.end < q.end */
     KHEYAMBO_CONTAINS = 9,       /* q.st < s.st, s.end < q.end */

@@ -4,56 +4,74 @@ use mathlib.Core.Path.{_≡_, refl, sym, _∙_}
 use mathlib.Core.Bool.{not, _&&_}
 use mathlib.Core.List.{List, List·Memᴰ as Mem}
 use Prim.Native.Nat.{ℕ, _≤_, _<_}
+use native.Mathlib.Nat.{le-trans}
 use native.Mathlib.Omega.{arith}
 use lib.Dec.{T}
 use lib.ListN.{length}
 use borrow.Author.Tests.{ltb-true}
 use Rattle.lists.specs.Lists.{sumTo, keep}
+use Rattle.lists.proofs.Members.{keep-length}
 use Rattle.lists.proofs.Sums.{sum-ext}
 use Rattle.ruler.specs.declared.Numbers.{Numbers}
 use Rattle.ruler.specs.Ruler.{scaleOf}
 use Rattle.trip.specs.declared.Trip.{Trip}
 use Rattle.trip.specs.declared.Window.{Window}
+use Rattle.trip.specs.declared.Relationship.{Relationship}
 use Rattle.trip.specs.declared.Relationship.the-variants.{Before, After, GOverlaps}
 use Rattle.trip.specs.declared.Named.{Named}
 use Rattle.trip.specs.declared.Named.the-variants.{As, Nothing}
 use Rattle.trip.specs.Relationships.{codeOf, lastCode, named, related, thirteen, holdsBy, codeHolds}
 use Rattle.trip.specs.Trips.{windowOf, askingOf}
 use Rattle.trip.proofs.Naming.{nothing-above}
-use Rattle.trip.proofs.ExactlyOne as trips
+use Rattle.trip.proofs.ExactlyOne.{one-of-thirteen, neither-before-nor-after}
 use Rattle.trip.proofs.CountsAddUp.{thirteen-kept, overlapping-kept}
 use Rattle.layout.specs.declared.Outcome.the-variants.{Accepted}
 use Rattle.layout.specs.Words.{rows, Index}
-use Rattle.layout.specs.Refusals.{IndexOf}
+use Rattle.layout.specs.Answers.{matching, matches, question}
+use Rattle.layout.specs.Refusals.{windowTests, IndexOf}
 use Rattle.layout.specs.Calls.{Asked, askOf}
 use Rattle.layout.proofs.Indexes.{given-table, given-fair}
 use Rattle.layout.proofs.Given.{asked-on-ruler, given-count}
+use Rattle.demands.proofs.Exact.{accepted-exactly}
 
 -- ---- a window and a trip, neither of them backward
 
 -- there is a code that holds, and any code that holds is that code
 pub exactly-one : (q : Window) (t : Trip) → q .start .0 ≤ q .end .0 → t .start .0 ≤ t .end .0
     → (code : ℕ) × (code < thirteen) × T (codeHolds code q t) × ((other : ℕ) → other < thirteen → T (codeHolds other q t) → other ≡ code)
-exactly-one = trips.exactly-one
+exactly-one = one-of-thirteen
 
 -- G-OVERLAPS in terms of the thirteen: it holds exactly where neither BEFORE nor AFTER does
 pub overlaps-exactly : (q : Window) (t : Trip) → related GOverlaps q t ≡ (not (related Before q t) && not (related After q t))
-overlaps-exactly = trips.neither-before-nor-after
+overlaps-exactly = neither-before-nor-after
 
--- ---- a table and a window: what the questions of all codes are told, each with a list of its own
+-- ---- a table and a window: what the questions of each code are told, each with a list of its own
 
 module _ (n : Numbers) (x : Index) (table : List ℕ) (g : IndexOf (scaleOf n) table x) (start end : ℕ) (lists : (code : ℕ) → List ℕ) where
   abbrev told : (code : ℕ) → Asked
   told code = askOf (scaleOf n) x (askingOf code start end) (lists code)
 
+  -- a code up to the last names a relationship
+  by-name : (P : Type 0) (code : ℕ) → code ≤ lastCode → ((r : Relationship) → named code ≡ As r → P) → P
+  by-name P code h f = go (named code) refl
+    where
+      go : (what : Named) → named code ≡ what → P
+      go (As r) is = f r is
+      go Nothing is = absurd (omega (arith, ltb-true lastCode code (nothing-above code is)))
+
+  -- they are accepted, where the window passes 4 and 5 and each list has a word for each trip
+  pub all-accepted : windowTests (scaleOf n) (windowOf start end) Accepted ≡ Accepted → ((code : ℕ) → length (rows table) ≤ length (lists code))
+      → (code : ℕ) → code ≤ lastCode → told code .outcome ≡ Accepted
+  unfolding matches
+  all-accepted on-ruler room code h = by-name (told code .outcome ≡ Accepted) code h (λ r is.
+      let q = askingOf code start end in
+      accepted-exactly n x table g q r is (lists code) on-ruler .1 (le-trans (keep-length (matching (question r q)) (rows table)) (room code)))
+
   holding : (code : ℕ) → code ≤ lastCode → told code .outcome ≡ Accepted → told code .count
       ≡ length (keep (codeHolds code (windowOf start end)) (rows table))
   unfolding askOf
-  holding code h accepted = go (named code) refl
-    where
-      go : (what : Named) → named code ≡ what → told code .count ≡ length (keep (codeHolds code (windowOf start end)) (rows table))
-      go (As r) is = given-count (scaleOf n) (given-fair n table x g) table x g (askingOf code start end) r is (lists code) accepted
-      go Nothing is = absurd (omega (arith, ltb-true lastCode code (nothing-above code is)))
+  holding code h accepted = by-name _ code h (λ r is.
+      given-count (scaleOf n) (given-fair n table x g) table x g (askingOf code start end) r is (lists code) accepted)
 
   forward : (code : ℕ) → told code .outcome ≡ Accepted → start ≤ end
   unfolding askOf

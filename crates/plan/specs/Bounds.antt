@@ -25,7 +25,7 @@ has s t = noLater (s .from) t && before t (s .until)
 abbrev pub exactly : Time → Span
 exactly t = span t (nextTime t)
 
--- that time alone where the test passes, and else no time
+-- a time alone where the test passes, and else no time
 abbrev pub exactlyIf : Bool → Time → Span
 exactlyIf test t = cond test (exactly t) (span t t)
 

@@ -31,7 +31,7 @@ impl Span {
         }
     }
 
-    // That time where the test passes, and no time where it does not.
+    // A time alone where the test passes, and no time where it does not.
     fn exactly_if(test: bool, t: Time) -> Span
         requires { ⌜ t .0 < far ⌝ }
         ensures { λ r. ⌜ r ≡ exactlyIf test t ⌝ }

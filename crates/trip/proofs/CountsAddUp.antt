@@ -14,7 +14,7 @@ use Rattle.trip.specs.declared.Trip.{Trip}
 use Rattle.trip.specs.declared.Window.{Window}
 use Rattle.trip.specs.declared.Relationship.the-variants.{Before, After, GOverlaps}
 use Rattle.trip.specs.Relationships.{codeOf, related, thirteen, holdsBy, codeHolds}
-use Rattle.trip.proofs.ExactlyOne.{exactly-one, neither-before-nor-after}
+use Rattle.trip.proofs.ExactlyOne.{one-of-thirteen, neither-before-nor-after}
 
 -- ---- of one trip
 
@@ -27,7 +27,7 @@ rest false false n e = omega arith
 
 module _ (q : Window) (t : Trip) (forward : q .start .0 ≤ q .end .0) (runs : t .start .0 ≤ t .end .0) where
   all-thirteen : count (λ code. codeHolds code q t) thirteen ≡ 1
-  all-thirteen = let w = exactly-one q t forward runs in count-one (λ code. codeHolds code q t) thirteen (w .0) (w .1) (w .2) (w .3)
+  all-thirteen = let w = one-of-thirteen q t forward runs in count-one (λ code. codeHolds code q t) thirteen (w .0) (w .1) (w .2) (w .3)
 
   below-before : count (λ code. codeHolds code q t) (codeOf Before) ≡ oneMore (related GOverlaps q t) 0
   unfolding count codeOf holdsBy

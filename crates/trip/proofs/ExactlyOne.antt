@@ -152,9 +152,9 @@ module _ (q : Window) (s : Trip) (forward : q .start .0 ≤ q .end .0) (runs : s
           sym c ∙ ap codeOf (only-standing q s forward runs r (omega arith) t)
       go Nothing e t = absurd t
 
-  pub exactly-one : (code : ℕ) × (code < thirteen) × T (codeHolds code q s) × ((other : ℕ) → other < thirteen → T (codeHolds other q s) → other ≡ code)
+  pub one-of-thirteen : (code : ℕ) × (code < thirteen) × T (codeHolds code q s) × ((other : ℕ) → other < thirteen → T (codeHolds other q s) → other ≡ code)
   unfolding holdsBy
-  exactly-one =
+  one-of-thirteen =
       let h = standing-holds q s in
       (codeOf (standing q s), h .1, rw (named-code (standing q s)) (h .0), only-code)
 

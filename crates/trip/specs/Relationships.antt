@@ -72,7 +72,7 @@ related Before q s = before (q .end) (s .start)
 related After q s = before (s .end) (q .start)
 related GOverlaps q s = noLater (q .start) (s .end) && noLater (s .start) (q .end)
 
--- ---- "exactly one of codes 0 to 12 holds for any window and trip" (T-02; the law `exactly-one`)
+-- ---- "exactly one of codes 0 to 12 holds for any window and trip" (T-02; the law `one-of-thirteen`)
 
 -- the codes 0 to 12 are those below
 abbrev pub thirteen : ℕ

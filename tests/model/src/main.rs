@@ -1,4 +1,4 @@
-//! A model of document 01, and a harness that compares programs with it.
+//! A model of documents 01 and 02, and a harness that compares programs with it.
 
 mod call;
 mod compare;
