@@ -1,6 +1,6 @@
 -- Document 02, T-02: "exactly one of codes 0 to 12 holds for any window and trip, points too, so the thirteen counts for a window add up to the table's
 -- trips."
-use mathlib.Core.Path.{_≡_, refl, sym, _∙_}
+use mathlib.Core.Path.{_≡_, sym, _∙_}
 use mathlib.Core.Bool.{not, _&&_}
 use mathlib.Core.List.{List, List·Memᴰ as Mem}
 use Prim.Native.Nat.{ℕ, _≤_, _<_}
@@ -8,7 +8,6 @@ use native.Mathlib.Nat.{le-trans}
 use native.Mathlib.Omega.{arith}
 use lib.Dec.{T}
 use lib.ListN.{length}
-use borrow.Author.Tests.{ltb-true}
 use Rattle.lists.specs.Lists.{sumTo, keep}
 use Rattle.lists.proofs.Members.{keep-length}
 use Rattle.lists.proofs.Sums.{sum-ext}
@@ -16,13 +15,10 @@ use Rattle.ruler.specs.declared.Numbers.{Numbers}
 use Rattle.ruler.specs.Ruler.{scaleOf}
 use Rattle.trip.specs.declared.Trip.{Trip}
 use Rattle.trip.specs.declared.Window.{Window}
-use Rattle.trip.specs.declared.Relationship.{Relationship}
 use Rattle.trip.specs.declared.Relationship.the-variants.{Before, After, GOverlaps}
-use Rattle.trip.specs.declared.Named.{Named}
-use Rattle.trip.specs.declared.Named.the-variants.{As, Nothing}
-use Rattle.trip.specs.Relationships.{codeOf, lastCode, named, related, thirteen, holdsBy, codeHolds}
+use Rattle.trip.specs.Relationships.{codeOf, lastCode, related, thirteen, holdsBy, codeHolds}
 use Rattle.trip.specs.Trips.{windowOf, askingOf}
-use Rattle.trip.proofs.Naming.{nothing-above}
+use Rattle.trip.proofs.Naming.{code-names}
 use Rattle.trip.proofs.ExactlyOne.{one-of-thirteen, neither-before-nor-after}
 use Rattle.trip.proofs.CountsAddUp.{thirteen-kept, overlapping-kept}
 use Rattle.layout.specs.declared.Outcome.the-variants.{Accepted}
@@ -51,27 +47,22 @@ module _ (n : Numbers) (x : Index) (table : List ℕ) (g : IndexOf (scaleOf n) t
   abbrev told : (code : ℕ) → Asked
   told code = askOf (scaleOf n) x (askingOf code start end) (lists code)
 
-  -- a code up to the last names a relationship
-  by-name : (P : Type 0) (code : ℕ) → code ≤ lastCode → ((r : Relationship) → named code ≡ As r → P) → P
-  by-name P code h f = go (named code) refl
-    where
-      go : (what : Named) → named code ≡ what → P
-      go (As r) is = f r is
-      go Nothing is = absurd (omega (arith, ltb-true lastCode code (nothing-above code is)))
-
   -- they are accepted, where the window passes 4 and 5 and each list has a word for each trip
   pub all-accepted : windowTests (scaleOf n) (windowOf start end) Accepted ≡ Accepted → ((code : ℕ) → length (rows table) ≤ length (lists code))
       → (code : ℕ) → code ≤ lastCode → told code .outcome ≡ Accepted
   unfolding matches
-  all-accepted on-ruler room code h = by-name (told code .outcome ≡ Accepted) code h (λ r is.
+  all-accepted on-ruler room code h =
       let q = askingOf code start end in
-      accepted-exactly n x table g q r is (lists code) on-ruler .1 (le-trans (keep-length (matching (question r q)) (rows table)) (room code)))
+      let r = code-names code h in
+      accepted-exactly n x table g q (r .0) (r .1) (lists code) on-ruler .1
+      (le-trans (keep-length (matching (question (r .0) q)) (rows table)) (room code))
 
   holding : (code : ℕ) → code ≤ lastCode → told code .outcome ≡ Accepted → told code .count
       ≡ length (keep (codeHolds code (windowOf start end)) (rows table))
   unfolding askOf
-  holding code h accepted = by-name _ code h (λ r is.
-      given-count (scaleOf n) (given-fair n table x g) table x g (askingOf code start end) r is (lists code) accepted)
+  holding code h accepted =
+      let r = code-names code h in
+      given-count (scaleOf n) (given-fair n table x g) table x g (askingOf code start end) (r .0) (r .1) (lists code) accepted
 
   forward : (code : ℕ) → told code .outcome ≡ Accepted → start ≤ end
   unfolding askOf

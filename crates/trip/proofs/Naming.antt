@@ -6,7 +6,7 @@ use Prim.Native.Nat.{ℕ, zero, suc, _+_, _≤_}
 use native.Mathlib.Omega.{arith}
 use lib.Dec.{ltb}
 use lib.ListN.{length, getD}
-use borrow.Author.Tests.{lt-ltb}
+use borrow.Author.Tests.{lt-ltb, ltb-true}
 use Rattle.trip.specs.declared.Relationship.{Relationship}
 use Rattle.trip.specs.declared.Named.{Named}
 use Rattle.trip.specs.declared.Named.the-variants.{As, Nothing}
@@ -49,3 +49,11 @@ named-within code {r} e = go (ltb lastCode code) (named-nothing code)
 
 pub code-named : (code : ℕ) {r : Relationship} → named code ≡ As r → codeOf r ≡ code
 code-named code e = let h = placed in-order code e in omega arith
+
+-- a code up to the last names a relationship
+pub code-names : (code : ℕ) → code ≤ lastCode → (r : Relationship) × (named code ≡ As r)
+code-names code h = go (named code) refl
+  where
+    go : (what : Named) → named code ≡ what → (r : Relationship) × (named code ≡ As r)
+    go (As r) e = (r, e)
+    go Nothing e = absurd (omega (arith, ltb-true lastCode code (nothing-above code e)))
