@@ -1,4 +1,4 @@
--- The demands of the product as theorems, that every contract settles its answer, and that no stand-in meets one.
+-- The demands of the product as theorems, that exactly one of thirteen codes holds, that every contract settles its answer, and that no stand-in meets one.
 pub mod Settled
 pub mod SettledParts
 pub mod SettledPrograms

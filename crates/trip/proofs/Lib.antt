@@ -1,4 +1,4 @@
--- The laws of the codes of relationships, and of trips with the same words.
+-- The laws of trips with the same words, of the codes of relationships, and that exactly one of thirteen holds.
 pub mod SameWords
 pub mod Codes
 pub mod Naming
