@@ -30,14 +30,14 @@ use Rattle.layout.proofs.Indexes.{given-table, given-fair}
 use Rattle.layout.proofs.Given.{asked-on-ruler, given-count}
 use Rattle.demands.proofs.Exact.{accepted-exactly}
 
--- ---- a window and a trip, neither of them backward
+-- ---- a window and a trip
 
--- there is a code that holds, and any code that holds is that code
+-- where neither is backward, there is a code that holds, and any code that holds is that code
 pub exactly-one : (q : Window) (t : Trip) → q .start .0 ≤ q .end .0 → t .start .0 ≤ t .end .0
     → (code : ℕ) × (code < thirteen) × T (codeHolds code q t) × ((other : ℕ) → other < thirteen → T (codeHolds other q t) → other ≡ code)
 exactly-one = one-of-thirteen
 
--- G-OVERLAPS in terms of the thirteen: it holds exactly where neither BEFORE nor AFTER does
+-- G-OVERLAPS in terms of the thirteen, of any window and trip: it holds exactly where neither BEFORE nor AFTER does
 pub overlaps-exactly : (q : Window) (t : Trip) → related GOverlaps q t ≡ (not (related Before q t) && not (related After q t))
 overlaps-exactly = neither-before-nor-after
 
@@ -57,6 +57,7 @@ module _ (n : Numbers) (x : Index) (table : List ℕ) (g : IndexOf (scaleOf n) t
       accepted-exactly n x table g q (r .0) (r .1) (lists code) on-ruler .1
       (le-trans (keep-length (matching (question (r .0) q)) (rows table)) (room code))
 
+  -- an accepted question counts the trips of which its code holds
   holding : (code : ℕ) → code ≤ lastCode → told code .outcome ≡ Accepted → told code .count
       ≡ length (keep (codeHolds code (windowOf start end)) (rows table))
   unfolding askOf
@@ -64,6 +65,7 @@ module _ (n : Numbers) (x : Index) (table : List ℕ) (g : IndexOf (scaleOf n) t
       let r = code-names code h in
       given-count (scaleOf n) (given-fair n table x g) table x g (askingOf code start end) (r .0) (r .1) (lists code) accepted
 
+  -- its window is not backward, and no trip of the table is
   forward : (code : ℕ) → told code .outcome ≡ Accepted → start ≤ end
   unfolding askOf
   forward code accepted = asked-on-ruler (scaleOf n) x (askingOf code start end) (length (lists code)) accepted .ordered

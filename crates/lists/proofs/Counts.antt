@@ -3,7 +3,7 @@ use mathlib.Core.Path.{_≡_, refl, sym, ap₂}
 use mathlib.Core.Bool.{Bool, true, false}
 use Prim.Native.Nat.{ℕ, zero, suc, _+_, _≤_, _<_}
 use native.Mathlib.Nat.{add-zero, add-suc}
-use native.Mathlib.Decide.{ℕ-discrete}
+use native.Mathlib.Decide.{decLt, ℕ-discrete}
 use native.Mathlib.Omega.{arith}
 use lib.Arith.{le-zero}
 use lib.Dec.{T}
@@ -60,6 +60,17 @@ pub count-one : (g : ℕ → Bool) (n i : ℕ) → i < n → T (g i) → ((j : �
 count-one g n i l t only =
     let one-at-most = count-single g n (λ j k h m a b. omega (arith, only j (omega arith) a, only k m b)) in
     omega (arith, passing g n i l t)
+
+-- and where one is counted, it is one that passes, and no other does
+pub one-counted : (g : ℕ → Bool) (n : ℕ) → count g n ≡ 1 → (i : ℕ) × (i < n) × T (g i) × ((j : ℕ) → j < n → T (g j) → j ≡ i)
+one-counted g n e =
+    let w = last-one g n 0 (omega arith) in
+    (w .0, w .1, w .2, λ j l t. go (w .0) (w .1) (w .2) j l t (decLt j (w .0)) (decLt (w .0) j))
+  where
+    go : (i : ℕ) → i < n → T (g i) → (j : ℕ) → j < n → T (g j) → Dec (j < i) → Dec (i < j) → j ≡ i
+    go i h s j l t (yes p) q = absurd (omega (arith, count-pair g n j i p h t s))
+    go i h s j l t (no p) (yes q) = absurd (omega (arith, count-pair g n i j q l s t))
+    go i h s j l t (no p) (no q) = omega arith
 
 pub count-add : (g : ℕ → Bool) (n k : ℕ) → count g (n + k) ≡ count g n + count (λ i. g (n + i)) k
 unfolding count

@@ -1,4 +1,4 @@
--- Laws of `keep`: of lists joined, of a list that passes whole, of one of which nothing passes, and of one more value.
+-- Laws of `keep`: of lists joined, of a list that passes whole, of one of which nothing passes, after a wider test, and of one more value.
 use mathlib.Core.Path.{_≡_, refl, ap, ap₂, _∙_}
 use mathlib.Core.Bool.{Bool, true, false}
 use mathlib.Core.List.{List, [], _∷_, _++_, append-nil, List·Memᴰ as Mem, List·Memᴰ·head as here, List·Memᴰ·tail as there}
@@ -48,6 +48,16 @@ module _ {A : Type 0} (p : A → Bool) where
   unfolding keep
   keep-ext r [] h = refl
   keep-ext r (x ∷ l) h = ap₂ (λ (b : Bool) (k : List A). consIf b x k) (h x (here refl)) (keep-ext r l (λ z m. h z (there m)))
+
+  -- the same after a wider test as before it
+  pub keep-after : (wide : A → Bool) → ((z : A) → wide z ≡ false → p z ≡ false) → (l : List A) → keep p (keep wide l) ≡ keep p l
+  unfolding keep
+  keep-after wide h [] = refl
+  keep-after wide h (x ∷ l) = go (wide x) (h x) (keep-after wide h l)
+    where
+      go : (b : Bool) → (b ≡ false → p x ≡ false) → keep p (keep wide l) ≡ keep p l → keep p (consIf b x (keep wide l)) ≡ consIf (p x) x (keep p l)
+      go true n ih = ap (consIf (p x) x) ih
+      go false n ih = rw (n refl) ih
 
   -- a loop over the values f 0, f 1, .. : what is kept of the first i of them, one turn, and how long it is
   module _ (f : ℕ → A) where

@@ -1,4 +1,4 @@
--- Tests joined by && and ||, as facts; and the test of two numbers that are the same.
+-- Tests joined by && and ||, as facts; tests that pass alike; and the test of two numbers that are the same.
 use mathlib.Core.Path.{_≡_, refl}
 use mathlib.Core.Logic.{_⊎_, inl, inr}
 use mathlib.Core.Bool.{Bool, true, false, not, _&&_, _||_}
@@ -25,6 +25,11 @@ to-three a b c x = to-and (a && b) c (to-and a b (x .0) (x .1)) (x .2)
 pub of-or : (a b : Bool) → T (a || b) → T a ⊎ T b
 of-or true b t = inl t
 of-or false b t = inr t
+
+-- where the first does not pass, the second does
+pub of-or-not : (a b : Bool) → (T a → ⊥) → T (a || b) → T b
+of-or-not true b f t = absurd (f tt)
+of-or-not false b f t = t
 
 pub or-left : (a b : Bool) → T a → T (a || b)
 or-left true b t = t

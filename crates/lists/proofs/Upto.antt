@@ -1,5 +1,6 @@
 -- The list f 0, f 1, .., f (n - 1): its length, its values, its first value, and a loop that writes it over the front of a list.
 use mathlib.Core.Path.{_≡_, refl, ap, _∙_}
+use mathlib.Core.Bool.{Bool, true}
 use mathlib.Core.List.{List, [], _∷_, _++_, append-assoc, map, map-append}
 use Prim.Native.Nat.{ℕ, zero, suc, _+_, _<_}
 use native.Mathlib.Numerals.{add-one}
@@ -7,7 +8,9 @@ use native.Mathlib.Decide.{decLt}
 use native.Mathlib.Omega.{arith}
 use lib.ListN.{length, drop, getD, set, length-append, List·getD-append}
 use lib.Seq.{drop-cons, set-at, getD-at}
-use Rattle.lists.specs.Lists.{upTo}
+use lib.Dec.{T}
+use Rattle.lists.specs.Lists.{every, upTo}
+use Rattle.lists.proofs.Tests.{of-and}
 
 module _ {A : Type 0} where
   pub length-upTo : (f : ℕ → A) (n : ℕ) → length (upTo f n) ≡ n
@@ -49,3 +52,13 @@ pub map-upTo : {A B : Type 0} (g : A → B) (f : ℕ → A) (n : ℕ) → map g 
 unfolding upTo
 map-upTo g f zero = refl
 map-upTo {B = B} g f (suc n) = map-append g (upTo f n) (f n ∷ []) ∙ ap (λ (l : List B). l ++ (g (f n) ∷ [])) (map-upTo g f n)
+
+-- tests that all pass: each of them does
+every-at : (l : List Bool) (k : ℕ) → T (every l) → T (getD l k true)
+unfolding every
+every-at [] k t = tt
+every-at (b ∷ l) zero t = of-and b (every l) t .0
+every-at (b ∷ l) (suc k) t = every-at l k (of-and b (every l) t .1)
+
+pub every-upTo : (f : ℕ → Bool) (n k : ℕ) → k < n → T (every (upTo f n)) → T (f k)
+every-upTo f n k h t = rw (getD-upTo f n k true h) at (every-at (upTo f n) k t)

@@ -1,5 +1,5 @@
 -- The bounds of a relationship hold for a trip exactly where the table of relationships says that the window stands so to it.
-use mathlib.Core.Path.{_≡_, refl, ap₂, _∙_}
+use mathlib.Core.Path.{_≡_, ap₂, _∙_}
 use mathlib.Core.Bool.{Bool, true, false, _&&_, and-true, and-assoc, and-comm}
 use Prim.Native.Nat.{_+_, _<_}
 use native.Mathlib.Numerals.{add-one}

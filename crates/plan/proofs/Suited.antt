@@ -19,7 +19,7 @@ use Rattle.trip.specs.Relationships.{related}
 use Rattle.plan.specs.declared.range.Kind.{Kind}
 use Rattle.plan.specs.declared.range.Kind.the-variants.{Starting, Ending, Crossing}
 use Rattle.plan.specs.declared.range.Plan.{Plan}
-use Rattle.plan.specs.Plan.{plan, planOf, planFor, Ranged}
+use Rattle.plan.specs.Plan.{planOf, planFor, Ranged}
 use Rattle.plan.proofs.Walked.{Suits}
 
 -- the plan of a relationship, for a window whose level-m cells are f and l

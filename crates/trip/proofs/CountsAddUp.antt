@@ -1,20 +1,19 @@
 -- Document 02, T-02: "so the thirteen counts for a window add up to the table's trips": of any list of trips that are not backward, those kept by each
 -- of the thirteen codes are all of them; and those kept by the codes below BEFORE's are those that G-OVERLAPS keeps.
-use mathlib.Core.Path.{_≡_, sym, ap, _∙_}
+use mathlib.Core.Path.{_≡_, ap, _∙_}
 use mathlib.Core.Bool.{Bool, true, false, not, _&&_}
 use mathlib.Core.List.{List, List·Memᴰ as Mem}
 use Prim.Native.Nat.{ℕ, _≤_}
 use native.Mathlib.Omega.{arith}
 use lib.ListN.{length}
 use Rattle.lists.specs.Lists.{oneMore, count, sumTo, keep}
-use Rattle.lists.proofs.Counts.{count-one}
 use Rattle.lists.proofs.Kept.{keep-all}
 use Rattle.lists.proofs.Sums.{sum-kept}
 use Rattle.trip.specs.declared.Trip.{Trip}
 use Rattle.trip.specs.declared.Window.{Window}
 use Rattle.trip.specs.declared.Relationship.the-variants.{Before, After, GOverlaps}
 use Rattle.trip.specs.Relationships.{codeOf, related, thirteen, holdsBy, codeHolds}
-use Rattle.trip.proofs.ExactlyOne.{one-of-thirteen, neither-before-nor-after}
+use Rattle.trip.proofs.ExactlyOne.{all-thirteen, neither-before-nor-after}
 
 -- ---- of one trip
 
@@ -26,12 +25,9 @@ rest false true n e = omega arith
 rest false false n e = omega arith
 
 module _ (q : Window) (t : Trip) (forward : q .start .0 ≤ q .end .0) (runs : t .start .0 ≤ t .end .0) where
-  all-thirteen : count (λ code. codeHolds code q t) thirteen ≡ 1
-  all-thirteen = let w = one-of-thirteen q t forward runs in count-one (λ code. codeHolds code q t) thirteen (w .0) (w .1) (w .2) (w .3)
-
   below-before : count (λ code. codeHolds code q t) (codeOf Before) ≡ oneMore (related GOverlaps q t) 0
   unfolding count codeOf holdsBy
-  below-before = rw (neither-before-nor-after q t) (rest (related After q t) (related Before q t) _ all-thirteen)
+  below-before = rw (neither-before-nor-after q t) (rest (related After q t) (related Before q t) _ (all-thirteen q t forward runs))
 
 -- ---- of a list of trips
 

@@ -1,8 +1,8 @@
--- The code that a name has is its place among the names; so a code names nothing only where it is above the last code.
+-- A code names nothing only where it is above the last code.
 use mathlib.Core.Path.{_≡_, refl, sym, _∙_}
 use mathlib.Core.Bool.{Bool, true, false}
 use mathlib.Core.List.{List, [], _∷_}
-use Prim.Native.Nat.{ℕ, zero, suc, _+_, _≤_}
+use Prim.Native.Nat.{ℕ, zero, suc, _≤_}
 use native.Mathlib.Omega.{arith}
 use lib.Dec.{ltb}
 use lib.ListN.{length, getD}
@@ -10,35 +10,27 @@ use borrow.Author.Tests.{lt-ltb, ltb-true}
 use Rattle.trip.specs.declared.Relationship.{Relationship}
 use Rattle.trip.specs.declared.Named.{Named}
 use Rattle.trip.specs.declared.Named.the-variants.{As, Nothing}
-use Rattle.trip.specs.Relationships.{codeOf, lastCode, inOrder, named}
+use Rattle.trip.specs.Relationships.{lastCode, inOrder, named}
 use Rattle.trip.proofs.Codes.{named-nothing}
 
--- every one of a list names a relationship, and their codes rise by one from n on
-data Rising : ℕ → List Named → Type 0 where
-  none : {n : ℕ} → Rising n []
-  more : {n : ℕ} {r : Relationship} {l : List Named} → codeOf r ≡ n → Rising (suc n) l → Rising n (As r ∷ l)
+-- every one of a list names a relationship
+data Every : List Named → Type 0 where
+  none : Every []
+  more : {r : Relationship} {l : List Named} → Every l → Every (As r ∷ l)
 
 never : {A : Type 0} {r : Relationship} → As r ≡ Nothing → A
 never e = let z : _≡_ {A = ℕ} 0 1 = cc in absurd (omega arith)
 
-past : {n : ℕ} {l : List Named} → Rising n l → (k : ℕ) → getD l k Nothing ≡ Nothing → length l ≤ k
+past : {l : List Named} → Every l → (k : ℕ) → getD l k Nothing ≡ Nothing → length l ≤ k
 past none k e = omega arith
-past (more c a) zero e = never e
-past (more c a) (suc k) e = let h = past a k e in omega arith
+past (more a) zero e = never e
+past (more a) (suc k) e = let h = past a k e in omega arith
 
-placed : {n : ℕ} {l : List Named} → Rising n l → (k : ℕ) {r : Relationship} → getD l k Nothing ≡ As r → codeOf r ≡ n + k
-placed none k e = never (sym e)
-placed (more {r = first} c a) zero {r} e = let one : codeOf first ≡ codeOf r = cc in omega arith
-placed (more c a) (suc k) e = let h = placed a k e in omega arith
-
-in-order : Rising 0 inOrder
-unfolding codeOf
-in-order =
-    more refl (more refl (more refl (more refl (more refl (more refl (more refl (more refl (more refl (more refl (more refl (more refl (more refl (more refl
-    none)))))))))))))
+all-named : Every inOrder
+all-named = more (more (more (more (more (more (more (more (more (more (more (more (more (more none)))))))))))))
 
 pub nothing-above : (code : ℕ) → named code ≡ Nothing → ltb lastCode code ≡ true
-nothing-above code e = lt-ltb lastCode code (past in-order code e)
+nothing-above code e = lt-ltb lastCode code (past all-named code e)
 
 pub named-within : (code : ℕ) {r : Relationship} → named code ≡ As r → ltb lastCode code ≡ false
 named-within code {r} e = go (ltb lastCode code) (named-nothing code)
@@ -47,10 +39,7 @@ named-within code {r} e = go (ltb lastCode code) (named-nothing code)
     go true h = never (sym e ∙ h refl)
     go false h = refl
 
-pub code-named : (code : ℕ) {r : Relationship} → named code ≡ As r → codeOf r ≡ code
-code-named code e = let h = placed in-order code e in omega arith
-
--- a code up to the last names a relationship
+-- and a code up to the last names a relationship
 pub code-names : (code : ℕ) → code ≤ lastCode → (r : Relationship) × (named code ≡ As r)
 code-names code h = go (named code) refl
   where

@@ -8,8 +8,8 @@ use lib.Dec.{ltb, eqb}
 use lib.ListN.{length, getD, take, drop, length-drop}
 use lib.Seq.{getD-take}
 use borrow.Author.Tests.{lt-ltb, ltb-true, ltb-false, eqb-true, lt-leb, le-leb}
-use Rattle.lists.specs.Lists.{consIf, keep}
-use Rattle.lists.proofs.Kept.{keep-append, keep-none}
+use Rattle.lists.specs.Lists.{keep}
+use Rattle.lists.proofs.Kept.{keep-append, keep-none, keep-after}
 use Rattle.lists.proofs.Halving.{Between, Falls, between-start, between-up, between-down}
 use Rattle.ruler.specs.declared.Time.{Time}
 use Rattle.ruler.specs.Ruler.{noLater}
@@ -95,16 +95,6 @@ module _ {A : Type 0} (p : A → Bool) where
   unfolding keep
   keep-passes d [] h = refl
   keep-passes d (x ∷ l) h = rw (h 0 (omega arith)) (ap (λ (k : List A). x ∷ k) (keep-passes d l (λ j g. h (suc j) (omega arith))))
-
-  -- the same after a wider test as before it
-  keep-after : (wide : A → Bool) → ((z : A) → wide z ≡ false → p z ≡ false) → (l : List A) → keep p (keep wide l) ≡ keep p l
-  unfolding keep
-  keep-after wide h [] = refl
-  keep-after wide h (x ∷ l) = go (wide x) (h x) (keep-after wide h l)
-    where
-      go : (b : Bool) → (b ≡ false → p x ≡ false) → keep p (keep wide l) ≡ keep p l → keep p (consIf b x (keep wide l)) ≡ consIf (p x) x (keep p l)
-      go true n ih = ap (consIf (p x) x) ih
-      go false n ih = rw (n refl) ih
 
 -- ---- what is cut off
 
