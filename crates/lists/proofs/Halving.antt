@@ -29,7 +29,7 @@ module _ {A : Type 0} (d : A) where
   pairs-at (more {l = l} a s) zero (suc q) h g = a _ (at-mem l q (omega arith))
   pairs-at (more a s) (suc p) (suc q) h g = pairs-at s p q (omega arith) (omega arith)
 
-  mem-at : {l : List A} (t : A) → Mem t l → (j : ℕ) × (j < length l) × (getD l j d ≡ t)
+  pub mem-at : {l : List A} (t : A) → Mem t l → (j : ℕ) × (j < length l) × (getD l j d ≡ t)
   mem-at {l = x ∷ l} t (here e) = (0, omega arith, sym e)
   mem-at {l = x ∷ l} t (there m) = let w = mem-at t m in (suc (w .0), omega (arith, w .1), w .2)
 

@@ -154,6 +154,16 @@ module _ {A : Type 0} {R : A → A → Type 0} where
       more {x = x} (λ y m. elim (append-cases l {t = k} m) [ inl n ↦ a y n | inr n ↦ h x y (here refl) n ])
       (pairs-append d e (λ u y m. h u y (there m)))
 
+  -- and back: of the one, of the other, and of the members of both
+  pub pairs-parts : (l : List A) {k : List A} → Pairs R (l ++ k) → Pairs R l × Pairs R k × ((x y : A) → Mem x l → Mem y k → R x y)
+  pairs-parts [] d = (none, d, λ x y m. absurd (not-nil m))
+  pairs-parts (x ∷ l) {k} (more h d) =
+      let w = pairs-parts l d in (
+        more {x = x} (λ y m. h y (append-left k m)) (w .0),
+        w .1,
+        λ u y m n. elim m [ here e ↦ subst (λ (z : A). R z y) (sym e) (h y (append-right l n)) | there q ↦ w .2 u y q n ],
+      )
+
   module _ (symm : (x y : A) → R x y → R y x) (lt : A → A → Bool) where
     pairs-insert : (x : A) (l : List A) → ((y : A) → Mem y l → R x y) → Pairs R l → Pairs R (insert lt x l)
     unfolding insert

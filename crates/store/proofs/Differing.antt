@@ -19,7 +19,7 @@ use Rattle.layout.specs.Words.{entryWords, rows}
 use Rattle.layout.proofs.RowOrder.{Distinct}
 use Rattle.store.specs.Entries.{ids}
 use Rattle.store.proofs.Entries.{ids-rows}
-use Rattle.store.specs.Ids.{climbsFrom, climbs, idsDiffer}
+use Rattle.store.specs.Ids.{climbsFrom, climbs, idsDiffer, differ}
 
 -- ---- words that climb are in strict order
 
@@ -34,7 +34,7 @@ unfolding climbsFrom
 from-sorted x [] t = more (λ y m. absurd (not-nil m)) none
 from-sorted x (y ∷ l) t = more (climbs-above x (y ∷ l) t) (from-sorted y l (of-and (ltb x y) (climbsFrom y l) t .1))
 
-climbs-sorted : (l : List ℕ) → T (climbs l) → Sorted ltb l
+pub climbs-sorted : (l : List ℕ) → T (climbs l) → Sorted ltb l
 unfolding climbs
 climbs-sorted [] t = none
 climbs-sorted (x ∷ l) t = from-sorted x l t
@@ -122,26 +122,17 @@ sorted-differ : {l : List ℕ} → Sorted ltb l → Differ l
 sorted-differ none = none
 sorted-differ (more {x = x} h s) = more (λ y m (e : x ≡ y). let p = ltb→lt x y (h y m) in omega arith) (sorted-differ s)
 
+-- none stands twice, as a test and as a fact
+pub of-differ : (l : List ℕ) → T (differ l) → Differ l
+of-differ l t = sort-differ l (sorted-differ (climbs-sorted (ascending l) t))
+
+pub to-differ : {l : List ℕ} → Differ l → T (differ l)
+to-differ d = rw (ascending-below d) (sorted-climbs (sorted-sort below (differ-apart d)))
+
 pub of-idsDiffer : (ts : List Trip) → T (idsDiffer ts) → Distinct ts
 unfolding idsDiffer
-of-idsDiffer ts t = differ-ids ts (sort-differ (ids ts) (sorted-differ (climbs-sorted (ascending (ids ts)) t)))
+of-idsDiffer ts t = differ-ids ts (of-differ (ids ts) t)
 
 pub to-idsDiffer : (ts : List Trip) → Distinct ts → T (idsDiffer ts)
 unfolding idsDiffer
-to-idsDiffer ts d =
-    let n = ids-differ d in
-    rw (ascending-below n) (sorted-climbs (sorted-sort below (differ-apart n)))
-
--- ---- ids copied out of a part and ordered
-
--- the first n words of the copy, put in order, are the ids in ascending order
-pub copied : (n : ℕ) (part copy room sorted rest : List ℕ) → n ≡ length part / entryWords → copy ≡ over (ids (rows part)) room
-    → sorted ≡ ascending (take (n - 0) copy) → climbs (take (n - 0) (sorted ++ rest)) ≡ idsDiffer (rows part)
-unfolding idsDiffer over
-copied n part copy room sorted rest e f g =
-    let z : n - 0 ≡ length part / entryWords = omega arith in
-    let l : length (ids (rows part)) ≡ n - 0 = ap length (ids-rows part) ∙ length-upTo _ (length part / entryWords) ∙ sym z in
-    let front : take (n - 0) copy ≡ ids (rows part) = ap (take (n - 0)) f ∙ take-at (ids (rows part)) _ (n - 0) l in
-    let s : sorted ≡ ascending (ids (rows part)) = g ∙ ap ascending front in
-    let k : length sorted ≡ n - 0 = ap length s ∙ length-sort leb (ids (rows part)) ∙ l in
-    ap (climbs) (take-at sorted rest (n - 0) k ∙ s)
+to-idsDiffer ts d = to-differ (ids-differ d)

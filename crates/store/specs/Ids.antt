@@ -1,9 +1,11 @@
--- No id twice, as a test on the ids in ascending order.
-use mathlib.Core.Bool.{Bool, true, _&&_}
-use mathlib.Core.List.{List, [], _∷_}
-use Prim.Native.Nat.{ℕ}
-use lib.Dec.{ltb}
-use Rattle.lists.specs.Lists.{ascending}
+-- No id twice, as a test on the ids in ascending order; and how it is found in a small room, class by class.
+use mathlib.Core.Path.{_≡_}
+use mathlib.Core.Bool.{Bool, true, false, not, _&&_, _||_}
+use mathlib.Core.List.{List, [], _∷_, _++_}
+use Prim.Native.Nat.{ℕ, _*_, _/_, _%_, _≤_, _<_}
+use lib.Dec.{ltb, eqb}
+use lib.ListN.{length, take, drop}
+use Rattle.lists.specs.Lists.{ascending, keep}
 use Rattle.trip.specs.declared.Trip.{Trip}
 use Rattle.store.specs.Entries.{ids}
 
@@ -20,3 +22,50 @@ climbs (x ∷ l) = climbsFrom x l
 -- no id stands twice: in ascending order they climb
 unfoldable pub idsDiffer : List Trip → Bool
 idsDiffer ts = climbs (ascending (ids ts))
+
+-- the same of a list of numbers
+abbrev pub differ : List ℕ → Bool
+differ l = climbs (ascending l)
+
+-- ---- class by class
+
+-- how many ids are put in order at once
+abbrev pub roomLength : ℕ
+roomLength = 512
+
+-- the first number that is no word
+abbrev pub wordEnd : ℕ
+wordEnd = 4294967296
+
+-- what ids are multiplied by: an odd number, about 0.618 of all words
+abbrev pub mixer : ℕ
+mixer = 2654435769
+
+-- The class of an id, one of so many: where among all words the low word of a product stands, which spreads ids that come in even steps.
+unfoldable pub classOf : (classes id : ℕ) → ℕ
+classOf classes id = id * mixer % wordEnd * classes / wordEnd
+
+abbrev pub inClass : (classes class id : ℕ) → Bool
+inClass classes class id = eqb (classOf classes id) class
+
+-- the ids of a class, from row k on
+abbrev pub ofClass : (classes class : ℕ) → List Trip → (k : ℕ) → List ℕ
+ofClass classes class ts k = keep (inClass classes class) (drop k (ids ts))
+
+-- The first words of a room were gathered from one row up to the next: they stand before what is left there. The room is full where rows
+-- are left, and a row was passed where there was one.
+pub record Gathers (left : ℕ → List ℕ) (count from : ℕ) (room : List ℕ) (found next : ℕ) : Type 0 where
+  pub there : left from ≡ take found room ++ left next
+  pub fits : found ≤ length room
+  pub full : next < count → found ≡ length room
+  pub onward : from < count → from < next
+
+-- x is one of a list
+unfoldable pub among : ℕ → List ℕ → Bool
+among x [] = false
+among x (y ∷ l) = eqb y x || among x l
+
+-- none of the second list is in the first
+unfoldable pub apart : (l k : List ℕ) → Bool
+apart l [] = true
+apart l (x ∷ k) = not (among x l) && apart l k

@@ -1,13 +1,27 @@
-// No id twice: a copy of the ids, in order, climbs.
-use crate::entry::copy_ids;
+// No id twice, in 2 KiB: the ids are gathered class by class into a room for 512, put in order there and looked through.
+use layout::ENTRY_WORDS;
 use lists::sort_ids;
-use ruler::Ruler;
 ghost use mathlib.Core.Path.{_≡_};
-ghost use Prim.Native.Nat.{_/_, _≤_};
-ghost use lib.ListN.{length};
+ghost use mathlib.Core.Bool.{true, cond};
+ghost use mathlib.Core.List.{_++_};
+ghost use Prim.Native.Nat.{_/_, _<_, _≤_};
+ghost use lib.Dec.{leb};
+ghost use lib.ListN.{length, take, drop};
 ghost use Rattle.ruler.specs.Ruler.{mostTrips};
+ghost use Rattle.lists.specs.Lists.{ascending};
 ghost use Rattle.layout.specs.Words.{entryWords, rows};
-ghost use Rattle.store.specs.Ids.{climbs, idsDiffer};
+ghost use Rattle.store.specs.Ids.{climbs, idsDiffer, among, apart, differ, roomLength, wordEnd, classOf, ofClass, Gathers};
+
+// How many ids are put in order at once.
+const ROOM: usize = 512;
+
+// How many ids a class has where they fall evenly: so far below the room that chance does not fill it.
+const EVEN: usize = 384;
+
+// What an id is multiplied by, and the end of a word: the product's low word is spread over all words, also of ids in even steps.
+const MIX: u64 = 2654435769;
+
+const WORD_END: u64 = 4294967296;
 
 // Whether each word is above the one before it.
 fn climb(ids: &[u32]) -> bool
@@ -29,14 +43,117 @@ fn climb(ids: &[u32]) -> bool
     true
 }
 
-// Whether the ids of a part differ, with room for a copy of them.
-fn differ_in(part: &[u32], ids: &mut [u32]) -> bool
-    requires { ⌜ length (now part) / entryWords ≤ length (now ids) ⌝ }
-    ensures { λ r. ⌜ r ≡ idsDiffer (rows (now (part .entry))) ⌝ }
+// The class of an id, one of so many.
+fn class_of(id: u32, classes: u64) -> u64
+    requires { ⌜ classes ≤ wordEnd ⌝ }
+    ensures { λ r. ⌜ r ≡ classOf classes id ⌝ }
 {
-    let n = copy_ids(part, ids);
-    sort_ids(&mut ids[0..n]);
-    climb(&ids[0..n])
+    id as u64 * MIX % WORD_END * classes / WORD_END
+}
+
+// How many ids of a class were gathered, and the row after the last that was looked at.
+struct Gathered {
+    found: usize,
+    next: usize,
+}
+
+// Gathers the ids of a class, from one row on, in the first words of a room, until the rows end or it is full. Each id is written, and the
+// next over it where it is of another class: so nothing is jumped over.
+fn gather(part: &[u32], classes: u64, class: u64, from: usize, room: &mut [u32]) -> Gathered
+    requires { ⌜ (classes ≤ wordEnd) × (0 < length (now room)) ⌝ }
+    ensures { λ r. ⌜ Gathers (ofClass classes class (rows (now (part .entry)))) (length (now (part .entry)) / entryWords) from (now (room .exit)) (r .found) (r .next) ⌝ }
+{
+    let n = part.len() / ENTRY_WORDS;
+    let mut found: usize = 0;
+    let mut k = from;
+    while k < n {
+        if room.len() <= found {
+            return Gathered { found, next: k };
+        }
+        let id = part[ENTRY_WORDS * k];
+        k += 1;
+        room[found] = id;
+        if class_of(id, classes) == class {
+            found += 1;
+        }
+    }
+    Gathered { found, next: k }
+}
+
+// Puts the first words of a room in order, and says whether they differ.
+fn put_in_order(room: &mut [u32], n: usize) -> bool
+    requires { ⌜ n ≤ length (now room) ⌝ }
+    ensures { λ r. ⌜ (r ≡ differ (take n (now (room .entry)))) × (now (room .exit) ≡ ascending (take n (now (room .entry))) ++ drop n (now (room .entry))) ⌝ }
+{
+    sort_ids(&mut room[0..n]);
+    climb(&room[0..n])
+}
+
+// The half to pass over, if what stands there is not above the id; else none of it.
+fn passed(word: u32, id: u32, half: usize) -> usize
+    ensures { λ r. ⌜ r ≡ cond (leb word id) half 0 ⌝ }
+{
+    if word <= id {
+        return half;
+    }
+    0
+}
+
+// Whether a full room, in order, has an id: by halving, as many steps for each id, so that nothing is jumped over.
+fn holds(room: &[u32], id: u32) -> bool
+    requires { ⌜ (length (now room) ≡ roomLength) × (climbs (now room) ≡ true) ⌝ }
+    ensures { λ r. ⌜ r ≡ among id (now (room .entry)) ⌝ }
+{
+    let mut low: usize = 0;
+    let mut width = ROOM;
+    while 1 < width {
+        let half = width / 2;
+        low += passed(room[low + half], id, half);
+        width -= half;
+    }
+    room[low] == id
+}
+
+// Whether a full room, in order, has none of a class from one row on.
+fn none_again(part: &[u32], classes: u64, class: u64, from: usize, room: &[u32]) -> bool
+    requires { ⌜ (classes ≤ wordEnd) × (length (now room) ≡ roomLength) × (climbs (now room) ≡ true) ⌝ }
+    ensures { λ r. ⌜ r ≡ apart (now (room .entry)) (ofClass classes class (rows (now (part .entry))) from) ⌝ }
+{
+    let n = part.len() / ENTRY_WORDS;
+    let mut k = from;
+    while k < n {
+        let id = part[ENTRY_WORDS * k];
+        k += 1;
+        if class_of(id, classes) == class {
+            if holds(room, id) {
+                return false;
+            }
+        }
+    }
+    true
+}
+
+// Whether the ids of a class differ: a room full at a time, and those that come later are looked up in it.
+fn class_differs(part: &[u32], classes: u64, class: u64, room: &mut [u32]) -> bool
+    requires { ⌜ (classes ≤ wordEnd) × (length (now room) ≡ roomLength) ⌝ }
+    ensures { λ r. ⌜ r ≡ differ (ofClass classes class (rows (now (part .entry))) 0) ⌝ }
+{
+    let n = part.len() / ENTRY_WORDS;
+    let mut k: usize = 0;
+    while k < n {
+        let g = gather(part, classes, class, k, room);
+        if !put_in_order(room, g.found) {
+            return false;
+        }
+        k = g.next;
+        if n <= k {
+            return true;
+        }
+        if !none_again(part, classes, class, k, room) {
+            return false;
+        }
+    }
+    true
 }
 
 // Whether the ids of a part differ.
@@ -44,6 +161,14 @@ pub fn ids_differ(part: &[u32]) -> bool
     requires { ⌜ length (now part) / entryWords ≤ mostTrips ⌝ }
     ensures { λ r. ⌜ r ≡ idsDiffer (rows (now (part .entry))) ⌝ }
 {
-    let mut ids: [u32; Ruler::MOST_TRIPS] = [0; Ruler::MOST_TRIPS];
-    differ_in(part, &mut ids)
+    let mut room: [u32; ROOM] = [0; ROOM];
+    let classes = (part.len() / ENTRY_WORDS / EVEN) as u64 + 1;
+    let mut class: u64 = 0;
+    while class < classes {
+        if !class_differs(part, classes, class, &mut room) {
+            return false;
+        }
+        class += 1;
+    }
+    true
 }

@@ -1,0 +1,127 @@
+-- What is left of the class from the first row on is what was gathered, and then what is left.
+use mathlib.Core.Path.{_≡_, refl, sym, _∙_}
+use mathlib.Core.List.{_++_}
+use Prim.Native.Nat.{_+_, _-_, _≤_}
+use native.Mathlib.Omega.{arith}
+use lib.ListN.{length, take, length-set}
+use borrow.Author.Tests.{eq-eqb, ne-eqb}
+use Rattle.layout.specs.Words.{rows}
+use Rattle.store.specs.Ids.{ofClass, inClass}
+use Rattle.store.proofs.Classes.{left-hit, left-miss, gather-hit, gather-miss}
+use Rattle.store.proofs.ids.gather.Statement.{statement}
+use Rattle.store.proofs.ids.gather.Tie as tie
+
+abbrev Inv-loop : tie.InvT-loop
+Inv-loop part classes class from room₀ n found₀ k₀ room found k =
+    (found + from ≤ k) × (found ≤ length room) × (length room ≡ length room₀)
+    × (ofClass classes class (rows part) from ≡ take found room ++ ofClass classes class (rows part) k)
+
+abbrev μ-loop : tie.MeasureT-loop
+μ-loop part classes class from room₀ n found₀ k₀ room found k = n - k
+
+loop-holds : tie.Need-loop-holds Inv-loop μ-loop
+loop-holds c = (omega arith, omega arith, refl, refl)
+
+same-length : tie.Need-same-length Inv-loop μ-loop
+same-length c = omega arith
+
+returns : tie.Need-returns Inv-loop μ-loop
+returns c =
+    let turn = c .before .before .loop in
+    record {
+      there = turn .inv .3;
+      fits = turn .inv .1;
+      full = λ h. omega (arith, turn .inv .1);
+      onward = λ h. omega (arith, turn .inv .0, turn .inv .2);
+    }
+
+mul-id : tie.Need-mul-id Inv-loop μ-loop
+mul-id c = omega arith
+
+mul-id-2 : tie.Need-mul-id-2 Inv-loop μ-loop
+mul-id-2 c = omega arith
+
+shared-slice-read-id : tie.Need-shared-slice-read-id Inv-loop μ-loop
+shared-slice-read-id c = omega arith
+
+add-k : tie.Need-add-k Inv-loop μ-loop
+add-k c = omega arith
+
+mul-room : tie.Need-mul-room Inv-loop μ-loop
+mul-room c = omega arith
+
+slice-write-room : tie.Need-slice-write-room Inv-loop μ-loop
+slice-write-room c = omega arith
+
+class-of-requires : tie.Need-class-of-requires Inv-loop μ-loop
+class-of-requires c κs = omega arith
+
+add-found : tie.Need-add-found Inv-loop μ-loop
+add-found c = omega arith
+
+loop-less : tie.Need-loop-less Inv-loop μ-loop
+loop-less c = omega arith
+
+loop-again : tie.Need-loop-again Inv-loop μ-loop
+loop-again c =
+    let turn = c .before .before .before .before .before in
+    let loop = turn .loop in
+    let args = turn .before .before .before .args in
+    let p = inClass (args .classes) (args .class) in
+    let part = args .part .now in
+    let of-class = c .before .class-of .ensures in
+    let rest = left-hit p part (loop .k) (omega arith) (eq-eqb _ _ (sym of-class ∙ c .if2 .taken)) in
+    let there = gather-hit _ (loop .room) _ _ (loop .found) _ (omega arith) (loop .inv .3) rest in
+    simp length-set (omega arith, omega arith, loop .inv .2, there)
+
+loop-less-2 : tie.Need-loop-less-2 Inv-loop μ-loop
+loop-less-2 c = omega arith
+
+loop-again-2 : tie.Need-loop-again-2 Inv-loop μ-loop
+loop-again-2 c =
+    let turn = c .before .before .before .before .before in
+    let loop = turn .loop in
+    let args = turn .before .before .before .args in
+    let p = inClass (args .classes) (args .class) in
+    let part = args .part .now in
+    let of-class = c .before .class-of .ensures in
+    let rest = left-miss p part (loop .k) (omega arith) (ne-eqb _ _ (λ e. c .if2 .left (of-class ∙ e))) in
+    let there = gather-miss _ (loop .room) _ _ (loop .found) _ (omega arith) (loop .inv .3) rest in
+    simp length-set (omega arith, omega arith, loop .inv .2, there)
+
+same-length-2 : tie.Need-same-length-2 Inv-loop μ-loop
+same-length-2 c = omega arith
+
+returns-2 : tie.Need-returns-2 Inv-loop μ-loop
+returns-2 c =
+    let turn = c .before .loop in
+    record {
+      there = turn .inv .3;
+      fits = turn .inv .1;
+      full = λ h. absurd (omega arith);
+      onward = λ h. omega arith;
+    }
+
+pub gather-spec : {M : Type 1} → statement M
+gather-spec =
+    tie.close
+    (tie.spec
+    Inv-loop
+    μ-loop
+    loop-holds
+    same-length
+    returns
+    mul-id
+    mul-id-2
+    shared-slice-read-id
+    add-k
+    mul-room
+    slice-write-room
+    class-of-requires
+    add-found
+    loop-less
+    loop-again
+    loop-less-2
+    loop-again-2
+    same-length-2
+    returns-2)
