@@ -25,8 +25,8 @@ use Rattle.lists.proofs.Lent.{head-lent, head-back}
 use Rattle.lists.proofs.Upto.{length-upTo, getD-upTo}
 use Rattle.trip.specs.declared.Trip.{Trip}
 use Rattle.layout.specs.Words.{entryWords, rows}
-use Rattle.store.specs.Entries.{ids}
-use Rattle.store.specs.Ids.{climbs, idsDiffer, differ, wordEnd, mixer, classOf, inClass, ofClass, Gathers, among, apart}
+use Rattle.store.specs.Entries.{wordEnd, ids}
+use Rattle.store.specs.Ids.{climbs, idsDiffer, differ, mixer, classOf, inClass, ofClass, Gathers, among, apart}
 use Rattle.store.proofs.Entries.{ids-rows}
 use Rattle.store.proofs.Differing.{climbs-sorted, of-differ, to-differ}
 

@@ -2,24 +2,25 @@
 use mathlib.Core.Path.{_≡_, refl, sym, ap, _∙_}
 use mathlib.Core.Bool.{Bool, true, false, cond}
 use mathlib.Core.List.{List, [], _∷_, _++_, List·Memᴰ as Mem, List·Memᴰ·head as here, List·Memᴰ·tail as there, List·Memᴰ·not-nil as not-nil}
-use Prim.Native.Nat.{ℕ, _+_, _-_, _/_, _≤_, _<_}
+use Prim.Native.Nat.{ℕ, _+_, _*_, _/_, _≤_, _<_}
+use native.Mathlib.Nat.{mul-comm, suc-mul, one-mul, div-one, le-div-iff-mul-le}
 use native.Mathlib.Numerals.{add-one}
 use native.Mathlib.Omega.{arith}
 use lib.Dec.{T, leb, ltb, ltb→lt}
-use lib.ListN.{length, getD, take, drop, drop-of-length-le}
-use lib.Seq.{drop-cons, take-at}
+use lib.ListN.{length, getD, drop, drop-of-length-le}
+use lib.Seq.{drop-cons, ext-getD}
 use borrow.Author.Tests.{lt-ltb, le-ltb}
-use Rattle.lists.specs.Lists.{insert, sort, ascending, over}
-use Rattle.lists.proofs.Tests.{of-and, to-and}
-use Rattle.lists.proofs.Members.{none, more, to-insert, to-sort, length-sort}
+use Rattle.lists.specs.Lists.{insert, sort, ascending, upTo}
+use Rattle.lists.proofs.Tests.{of-and, to-and, to-T, of-T}
+use Rattle.lists.proofs.Members.{none, more, to-insert, to-sort}
 use Rattle.lists.proofs.Sorting.{Sorted, Differ, below, differ-apart, ascending-below, sorted-sort}
-use Rattle.lists.proofs.Upto.{length-upTo}
+use Rattle.lists.proofs.Upto.{length-upTo, getD-upTo}
 use Rattle.trip.specs.declared.Trip.{Trip}
 use Rattle.layout.specs.Words.{entryWords, rows}
 use Rattle.layout.proofs.RowOrder.{Distinct}
 use Rattle.store.specs.Entries.{ids}
 use Rattle.store.proofs.Entries.{ids-rows}
-use Rattle.store.specs.Ids.{climbsFrom, climbs, idsDiffer, differ}
+use Rattle.store.specs.Ids.{climbsFrom, climbs, everyStep, idsDiffer, differ}
 
 -- ---- words that climb are in strict order
 
@@ -48,6 +49,41 @@ sorted-climbs : {l : List ℕ} → Sorted ltb l → T (climbs l)
 unfolding climbs
 sorted-climbs {l = []} s = tt
 sorted-climbs {l = x ∷ l} s = sorted-from s
+
+-- ---- words in even steps
+
+-- one word at a time they are all the words
+pub every-word : (l : List ℕ) → everyStep 1 l ≡ l
+unfolding everyStep
+every-word l = ext-getD 0 (upTo f (length l / 1)) l long same
+  where
+    f : ℕ → ℕ
+    f k = getD l (1 * k) 0
+
+    long : length (upTo f (length l / 1)) ≡ length l
+    long = length-upTo f (length l / 1) ∙ div-one (length l)
+
+    same : (i : ℕ) → i < length (upTo f (length l / 1)) → getD (upTo f (length l / 1)) i 0 ≡ getD l i 0
+    same i h = getD-upTo f (length l / 1) i 0 (omega (arith, length-upTo f (length l / 1))) ∙ ap (λ (j : ℕ). getD l j 0) (one-mul i)
+
+-- an entry at a time they are the ids
+pub every-id : (l : List ℕ) → everyStep entryWords l ≡ ids (rows l)
+unfolding everyStep
+every-id l = sym (ids-rows l)
+
+module _ (step : ℕ) (pos : 0 < step) (l : List ℕ) (i : ℕ) where
+  pub step-inside : i < length l / step → step * i < length l
+  step-inside h =
+      let all : (i + 1) * step ≤ length l = le-div-iff-mul-le {k = step} {x = i + 1} {y = length l} pos .0 (omega arith) in
+      omega (arith, all, mul-comm step i, suc-mul i step, ap (λ (k : ℕ). k * step) (add-one i))
+
+  pub step-at : i < length l / step → getD (everyStep step l) i 0 ≡ getD l (step * i) 0
+  unfolding everyStep
+  step-at h = getD-upTo (λ (k : ℕ). getD l (step * k) 0) (length l / step) i 0 h
+
+pub steps-long : (step : ℕ) (l : List ℕ) → length (everyStep step l) ≡ length l / step
+unfolding everyStep
+steps-long step l = length-upTo (λ (k : ℕ). getD l (step * k) 0) (length l / step)
 
 -- ---- the loop over the words
 
@@ -128,6 +164,10 @@ of-differ l t = sort-differ l (sorted-differ (climbs-sorted (ascending l) t))
 
 pub to-differ : {l : List ℕ} → Differ l → T (differ l)
 to-differ d = rw (ascending-below d) (sorted-climbs (sorted-sort below (differ-apart d)))
+
+-- what climbs as it stands
+pub climbs-differ : (l : List ℕ) → climbs l ≡ true → differ l ≡ true
+climbs-differ l e = of-T (differ l) (to-differ (sorted-differ (climbs-sorted l (to-T e))))
 
 pub of-idsDiffer : (ts : List Trip) → T (idsDiffer ts) → Distinct ts
 unfolding idsDiffer

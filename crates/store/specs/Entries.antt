@@ -9,6 +9,10 @@ use Rattle.ruler.specs.Ruler.{before, sameTime}
 use Rattle.trip.specs.declared.Trip.{Trip}
 use Rattle.layout.specs.Words.{entryWords, tripWords}
 
+-- the first number that is no word
+abbrev pub wordEnd : ℕ
+wordEnd = 4294967296
+
 -- the words l with those of the trip at place k
 unfoldable pub put : (k : ℕ) → Trip → List ℕ → List ℕ
 put k t l = take (entryWords * k) l ++ (tripWords t ++ drop (entryWords * k + entryWords) l)

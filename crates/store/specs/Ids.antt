@@ -4,10 +4,10 @@ use mathlib.Core.Bool.{Bool, true, false, not, _&&_, _||_}
 use mathlib.Core.List.{List, [], _∷_, _++_}
 use Prim.Native.Nat.{ℕ, _*_, _/_, _%_, _≤_, _<_}
 use lib.Dec.{ltb, eqb}
-use lib.ListN.{length, take, drop}
-use Rattle.lists.specs.Lists.{ascending, keep}
+use lib.ListN.{length, getD, take, drop}
+use Rattle.lists.specs.Lists.{ascending, keep, upTo}
 use Rattle.trip.specs.declared.Trip.{Trip}
-use Rattle.store.specs.Entries.{ids}
+use Rattle.store.specs.Entries.{wordEnd, ids}
 
 -- each word is above the one before it, the first above x
 unfoldable pub climbsFrom : (x : ℕ) → List ℕ → Bool
@@ -18,6 +18,10 @@ climbsFrom x (y ∷ l) = ltb x y && climbsFrom y l
 unfoldable pub climbs : List ℕ → Bool
 climbs [] = true
 climbs (x ∷ l) = climbsFrom x l
+
+-- the first word of each step, of as many whole steps as the words have
+unfoldable pub everyStep : (step : ℕ) → List ℕ → List ℕ
+everyStep step l = upTo (λ (k : ℕ). getD l (step * k) 0) (length l / step)
 
 -- no id stands twice: in ascending order they climb
 unfoldable pub idsDiffer : List Trip → Bool
@@ -32,10 +36,6 @@ differ l = climbs (ascending l)
 -- how many ids are put in order at once
 abbrev pub roomLength : ℕ
 roomLength = 512
-
--- the first number that is no word
-abbrev pub wordEnd : ℕ
-wordEnd = 4294967296
 
 -- what ids are multiplied by: an odd number, about 0.618 of all words
 abbrev pub mixer : ℕ

@@ -1,4 +1,5 @@
 // No id twice, in 2 KiB: the ids are gathered class by class into a room for 512, put in order there and looked through.
+use crate::entry::WORD_END;
 use layout::ENTRY_WORDS;
 use lists::sort_ids;
 ghost use mathlib.Core.Path.{_≡_};
@@ -10,30 +11,31 @@ ghost use lib.ListN.{length, take, drop};
 ghost use Rattle.ruler.specs.Ruler.{mostTrips};
 ghost use Rattle.lists.specs.Lists.{ascending};
 ghost use Rattle.layout.specs.Words.{entryWords, rows};
-ghost use Rattle.store.specs.Ids.{climbs, idsDiffer, among, apart, differ, roomLength, wordEnd, classOf, ofClass, Gathers};
+ghost use Rattle.store.specs.Entries.{wordEnd};
+ghost use Rattle.store.specs.Ids.{climbs, everyStep, idsDiffer, among, apart, differ, roomLength, classOf, ofClass, Gathers};
 
 // How many ids are put in order at once.
 const ROOM: usize = 512;
 
 // How many ids a class has where they fall evenly: so far below the room that chance does not fill it.
-const EVEN: usize = 384;
+const EVEN: usize = 416;
 
-// What an id is multiplied by, and the end of a word: the product's low word is spread over all words, also of ids in even steps.
+// What an id is multiplied by: the product's low word is spread over all words, also of ids in even steps.
 const MIX: u64 = 2654435769;
 
-const WORD_END: u64 = 4294967296;
-
-// Whether each word is above the one before it.
-fn climb(ids: &[u32]) -> bool
-    ensures { λ r. ⌜ r ≡ climbs (now (ids .entry)) ⌝ }
+// Whether the words in even steps, of which a list has whole ones, each are above the one before.
+fn climb(words: &[u32], step: usize) -> bool
+    requires { ⌜ 0 < step ⌝ }
+    ensures { λ r. ⌜ r ≡ climbs (everyStep step (now (words .entry))) ⌝ }
 {
-    if ids.len() == 0 {
+    let n = words.len() / step;
+    if n == 0 {
         return true;
     }
-    let mut last = ids[0];
+    let mut last = words[0];
     let mut i: usize = 1;
-    while i < ids.len() {
-        let id = ids[i];
+    while i < n {
+        let id = words[step * i];
         if id <= last {
             return false;
         }
@@ -86,7 +88,7 @@ fn put_in_order(room: &mut [u32], n: usize) -> bool
     ensures { λ r. ⌜ (r ≡ differ (take n (now (room .entry)))) × (now (room .exit) ≡ ascending (take n (now (room .entry))) ++ drop n (now (room .entry))) ⌝ }
 {
     sort_ids(&mut room[0..n]);
-    climb(&room[0..n])
+    climb(&room[0..n], 1)
 }
 
 // The half to pass over, if what stands there is not above the id; else none of it.
@@ -156,11 +158,14 @@ fn class_differs(part: &[u32], classes: u64, class: u64, room: &mut [u32]) -> bo
     true
 }
 
-// Whether the ids of a part differ.
+// Whether the ids of a part differ. A table often has its rows by id: then nothing need be put in order.
 pub fn ids_differ(part: &[u32]) -> bool
     requires { ⌜ length (now part) / entryWords ≤ mostTrips ⌝ }
     ensures { λ r. ⌜ r ≡ idsDiffer (rows (now (part .entry))) ⌝ }
 {
+    if climb(part, ENTRY_WORDS) {
+        return true;
+    }
     let mut room: [u32; ROOM] = [0; ROOM];
     let classes = (part.len() / ENTRY_WORDS / EVEN) as u64 + 1;
     let mut class: u64 = 0;

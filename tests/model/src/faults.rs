@@ -24,12 +24,13 @@ pub enum Fault {
     OldWords,
     EndOfSlot,
     SpareUnchecked,
+    FarIds,
     SessionReturn,
     SessionDigits,
 }
 
 /// Name, fault, and what goes wrong.
-pub const FAULTS: [(&str, Fault, &str); 19] = [
+pub const FAULTS: [(&str, Fault, &str); 20] = [
     ("tie-order", Fault::TieOrder, "equal starts in a slot of originals stand by falling id"),
     ("aft-by-start", Fault::AftByStart, "R_aft is ordered by start then id"),
     ("in-by-start", Fault::InByStart, "R_in is ordered by start then id"),
@@ -47,6 +48,7 @@ pub const FAULTS: [(&str, Fault, &str); 19] = [
     ("old-words", Fault::OldWords, "a removal leaves the old last words behind"),
     ("end-of-slot", Fault::EndOfSlot, "an added trip goes to the end of its slots"),
     ("spare-unchecked", Fault::SpareUnchecked, "the check does not look at words after the last entry"),
+    ("far-ids", Fault::FarIds, "an id is compared with those of the 512 rows before it alone"),
     ("session-return", Fault::SessionReturn, "a carriage return at the end of a line is passed over"),
     ("session-digits", Fault::SessionDigits, "a number may have more than ten digits"),
 ];

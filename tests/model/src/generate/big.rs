@@ -46,7 +46,17 @@ pub fn scene(random: &mut Random) -> Vec<Call> {
     let (originals, replicas) = needed_words(w, m, &rows);
     let beyond = index_of(w, m, &rows, originals, replicas);
     calls.push(Call { w, m, request: Request::Check, index: beyond });
+    calls.extend(id_twice(random, w, m, full));
     calls
+}
+
+/// Two of many trips with one id: a build of them, and the check of the words that they would be laid out in.
+fn id_twice(random: &mut Random, w: u32, m: u32, full: &[Trip]) -> Vec<Call> {
+    let mut rows = full.to_vec();
+    rows[random.below(MOST_TRIPS)].id = full[random.below(MOST_TRIPS)].id;
+    let (originals, replicas) = needed_words(w, m, &rows);
+    let index = index_of(w, m, &rows, originals, replicas);
+    vec![build_call(random, w, m, words_of(&rows), originals, replicas), Call { w, m, request: Request::Check, index }]
 }
 
 /// A build of all, one word short of it, with an id twice at the very end, and with too many rows.
@@ -74,17 +84,21 @@ fn build_call(random: &mut Random, w: u32, m: u32, table: Vec<u32>, originals: u
     Call { w, m, request: Request::Build { table }, index }
 }
 
+/// An odd factor keeps ids apart and mixes their order. The second undoes a mixing by 2,654,435,769, as whoever parts
+/// ids by a hash might have it: what that scatters it brings together.
+const FACTORS: [u32; 2] = [2_654_435_761, 340_573_321];
+
 /// Trips of a few cells at most, as long ones would need more replicas than a probe must hold.
 pub fn short_trips(random: &mut Random, w: u32, m: u32, many: usize) -> Vec<Trip> {
     let last = (1u32 << w) - 1;
     let longest = (1u32 << (w - m)).saturating_mul(3);
     let mut found = Vec::new();
     let first = random.word();
+    let factor = random.pick(&FACTORS);
     for k in 0..many as u32 {
         let start = random.between(0, last);
         let length = random.between(0, longest).min(last - start);
-        // An odd factor keeps ids apart and mixes their order.
-        let id = first.wrapping_add(k.wrapping_mul(2_654_435_761));
+        let id = first.wrapping_add(k.wrapping_mul(factor));
         found.push(Trip { id, start, end: start + length });
     }
     found

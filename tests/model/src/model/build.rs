@@ -40,7 +40,8 @@ pub fn row_refusal(w: u32, trip: &Trip, others: &[Trip]) -> Option<u32> {
     if let Some(number) = times_refusal(w, trip.start, trip.end) {
         return Some(number);
     }
-    if others.iter().any(|other| other.id == trip.id) {
+    let near = if planted(Fault::FarIds) { others.len().saturating_sub(512) } else { 0 };
+    if others[near..].iter().any(|other| other.id == trip.id) {
         return Some(6);
     }
     None

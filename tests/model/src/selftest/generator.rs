@@ -25,7 +25,7 @@ pub fn generator(report: &mut Report) {
         report.expect(longest == size.big, "large calls have a table of the longest trips");
         let twice: Vec<Call> = Calls::new(22, size).take(300).collect();
         report.expect(Calls::new(22, size).take(300).eq(twice), "a seed gives the same calls again");
-        let tally = tally_of(Calls::new(23, size), 4_000);
+        let tally = tally_of(Calls::new(23, size), 6_000);
         for (name, numbers) in &NUMBERS {
             for number in *numbers {
                 // 2 of an addition needs 4,096 trips.

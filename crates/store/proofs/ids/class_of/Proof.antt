@@ -4,7 +4,8 @@ use native.Mathlib.Nat.{mul-le-mul}
 use native.Mathlib.Omega.{arith}
 use Prim.Native.Nat.{_*_, _%_, _≤_}
 use borrow.Author.Needs.{needs}
-use Rattle.store.specs.Ids.{wordEnd, mixer, classOf}
+use Rattle.store.specs.Entries.{wordEnd}
+use Rattle.store.specs.Ids.{mixer, classOf}
 use Rattle.store.proofs.ids.class_of.Statement.{statement}
 use Rattle.store.proofs.ids.class_of.Tie as tie
 

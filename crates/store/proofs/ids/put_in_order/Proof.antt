@@ -1,6 +1,8 @@
 -- The first words are lent, put in order, and read again.
 use borrow.Author.Needs.{needs}
-use mathlib.Core.Path.{_∙_}
+use mathlib.Core.Path.{ap, _∙_}
+use Rattle.store.specs.Ids.{climbs}
+use Rattle.store.proofs.Differing.{every-word}
 use Rattle.store.proofs.Classes.{ordered-back, ordered-climbs}
 use Rattle.store.proofs.ids.put_in_order.Statement.{statement}
 use Rattle.store.proofs.ids.put_in_order.Tie as tie
@@ -37,7 +39,7 @@ returns c =
     let ordered = c .before .before .before .before .before in
     let args = ordered .before .before .before .args in
     let put = ordered .sort-ids .ensures in (
-      c .climb .ensures ∙ ordered-climbs (args .room .now) _ (args .n) (search needs) put,
+      c .climb .ensures ∙ ap climbs (every-word _) ∙ ordered-climbs (args .room .now) _ (args .n) (search needs) put,
       ordered-back (args .room .now) _ (args .n) (search needs) put,
     )
 
