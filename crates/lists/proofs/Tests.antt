@@ -47,6 +47,14 @@ pub to-nor : (a b : Bool) → T (not a) → T (not b) → T (not (a || b))
 to-nor true b s t = s
 to-nor false b s t = t
 
+pub of-not : (a : Bool) → T (not a) → T a → ⊥
+of-not true t s = t
+of-not false t s = s
+
+pub to-not : (a : Bool) → (T a → ⊥) → T (not a)
+to-not true f = f tt
+to-not false f = tt
+
 pub of-not-not : (a : Bool) → T (not (not a)) → T a
 of-not-not true t = tt
 of-not-not false t = t

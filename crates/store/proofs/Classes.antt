@@ -6,7 +6,7 @@ use mathlib.Core.Logic.{inl, inr}
 use mathlib.Core.List.{List, [], _∷_, _++_, append-assoc, append-nil}
 use mathlib.Core.List.{List·Memᴰ as Mem, List·Memᴰ·head as here, List·Memᴰ·tail as there, List·Memᴰ·not-nil as not-nil}
 use Prim.Native.Nat.{ℕ, _+_, _-_, _*_, _/_, _%_, _≤_, _<_}
-use native.Mathlib.Nat.{div-lt-iff-lt-mul, mul-lt-mul-of-pos-right, mod-lt}
+use native.Mathlib.Nat.{div-lt-iff-lt-mul, mul-lt-mul-of-pos-right}
 use native.Mathlib.Numerals.{add-one}
 use native.Mathlib.Omega.{arith}
 use native.Mathlib.Decide.{decLt}
@@ -14,21 +14,18 @@ use lib.Dec.{T, eqb, eqb→eq, leb, ltb, ltb→lt}
 use lib.ListN.{length, getD, set, take, drop, drop-of-length-le}
 use lib.Seq.{drop-cons, take-suc-set, take-set-le, take-at, length-take-le}
 use borrow.Rule.Slice.PartMut.{midOf, putMid}
-use borrow.Author.Tests.{eq-eqb, ne-eqb, leb-true, leb-false}
+use borrow.Author.Tests.{eq-eqb, leb-true, leb-false}
 use Rattle.lists.specs.Lists.{keep, consIf, sort, ascending}
-use Rattle.lists.specs.Sifting.{InOrder}
-use Rattle.lists.proofs.Tests.{of-and, to-and, of-three, to-three, of-or, or-left, or-right, to-T, of-T, of-no-T, agree, eq→eqb}
-use Rattle.lists.proofs.Members.{none, more, of-keep, to-keep, pairs-keep, pairs-append, pairs-parts, of-sort, to-sort, length-sort}
+use Rattle.lists.proofs.Tests.{of-and, to-and, of-three, to-three, of-or, or-left, or-right, to-T, of-T, of-no-T, of-not, to-not, agree, eq→eqb}
+use Rattle.lists.proofs.Members.{none, more, to-keep, pairs-keep, pairs-append, pairs-parts, of-sort, to-sort, length-sort}
 use Rattle.lists.proofs.Halving.{at-mem, mem-at, in-order}
 use Rattle.lists.proofs.Sorting.{Differ}
 use Rattle.lists.proofs.Lent.{head-lent, head-back}
-use Rattle.lists.proofs.Upto.{length-upTo, getD-upTo}
 use Rattle.trip.specs.declared.Trip.{Trip}
 use Rattle.layout.specs.Words.{entryWords, rows}
 use Rattle.store.specs.Entries.{wordEnd, ids}
-use Rattle.store.specs.Ids.{climbs, idsDiffer, differ, mixer, classOf, inClass, ofClass, Gathers, among, apart}
-use Rattle.store.proofs.Entries.{ids-rows}
-use Rattle.store.proofs.Differing.{climbs-sorted, of-differ, to-differ}
+use Rattle.store.specs.Ids.{climbs, idsDiffer, differ, mixer, classOf, inClass, ofClass, among, apart}
+use Rattle.store.proofs.Differing.{climbs-sorted, every-id, step-at, steps-long, of-differ, to-differ}
 
 -- ---- a loop over the rows of a part
 
@@ -37,10 +34,10 @@ abbrev pub idAt : List ℕ → ℕ → ℕ
 idAt l k = getD l (entryWords * k) 0
 
 ids-length : (l : List ℕ) → length (ids (rows l)) ≡ length l / entryWords
-ids-length l = ap length (ids-rows l) ∙ length-upTo _ (length l / entryWords)
+ids-length l = ap length (sym (every-id l)) ∙ steps-long entryWords l
 
 ids-at : (l : List ℕ) (k : ℕ) → k < length l / entryWords → getD (ids (rows l)) k 0 ≡ idAt l k
-ids-at l k h = ap (λ (r : List ℕ). getD r k 0) (ids-rows l) ∙ getD-upTo (idAt l) (length l / entryWords) k 0 h
+ids-at l k h = ap (λ (r : List ℕ). getD r k 0) (sym (every-id l)) ∙ step-at entryWords (omega arith) l k h
 
 module _ (p : ℕ → Bool) (l : List ℕ) (k : ℕ) where
   row-left : k < length l / entryWords → drop k (ids (rows l)) ≡ idAt l k ∷ drop (k + 1) (ids (rows l))
@@ -176,14 +173,6 @@ module _ (x : ℕ) (l : List ℕ) (low width : ℕ) (w : Narrowed x l low width)
           eq→eqb (getD l low 0) x (ap (λ (j : ℕ). getD l j 0) (sym q) ∙ m .2)
 
 -- ---- a list whose front was gathered
-
-to-not : (b : Bool) → (T b → ⊥) → T (not b)
-to-not true f = f tt
-to-not false f = tt
-
-of-not : (b : Bool) → T (not b) → T b → ⊥
-of-not true t s = t
-of-not false t s = s
 
 of-apart : (l k : List ℕ) → T (apart l k) → (y : ℕ) → Mem y k → Mem y l → ⊥
 unfolding apart

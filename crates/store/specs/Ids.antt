@@ -54,11 +54,11 @@ ofClass classes class ts k = keep (inClass classes class) (drop k (ids ts))
 
 -- The first words of a room were gathered from one row up to the next: they stand before what is left there. The room is full where rows
 -- are left, and a row was passed where there was one.
-pub record Gathers (left : ℕ → List ℕ) (count from : ℕ) (room : List ℕ) (found next : ℕ) : Type 0 where
-  pub there : left from ≡ take found room ++ left next
+pub record Gathers (classes class : ℕ) (ts : List Trip) (from : ℕ) (room : List ℕ) (found next : ℕ) : Type 0 where
+  pub there : ofClass classes class ts from ≡ take found room ++ ofClass classes class ts next
   pub fits : found ≤ length room
-  pub full : next < count → found ≡ length room
-  pub onward : from < count → from < next
+  pub full : next < length ts → found ≡ length room
+  pub onward : from < length ts → from < next
 
 -- x is one of a list
 unfoldable pub among : ℕ → List ℕ → Bool

@@ -23,7 +23,7 @@ const EVEN: usize = 416;
 // What an id is multiplied by: the product's low word is spread over all words, also of ids in even steps.
 const MIX: u64 = 2654435769;
 
-// Whether the words in even steps, of which a list has whole ones, each are above the one before.
+// Whether the words that stand a step apart, from the first on, each are above the one before.
 fn climb(words: &[u32], step: usize) -> bool
     requires { ⌜ 0 < step ⌝ }
     ensures { λ r. ⌜ r ≡ climbs (everyStep step (now (words .entry))) ⌝ }
@@ -63,7 +63,7 @@ struct Gathered {
 // next over it where it is of another class: so nothing is jumped over.
 fn gather(part: &[u32], classes: u64, class: u64, from: usize, room: &mut [u32]) -> Gathered
     requires { ⌜ (classes ≤ wordEnd) × (0 < length (now room)) ⌝ }
-    ensures { λ r. ⌜ Gathers (ofClass classes class (rows (now (part .entry)))) (length (now (part .entry)) / entryWords) from (now (room .exit)) (r .found) (r .next) ⌝ }
+    ensures { λ r. ⌜ Gathers classes class (rows (now (part .entry))) from (now (room .exit)) (r .found) (r .next) ⌝ }
 {
     let n = part.len() / ENTRY_WORDS;
     let mut found: usize = 0;

@@ -2,10 +2,11 @@
 use mathlib.Core.Path.{_≡_, refl, sym, ap, _∙_}
 use Prim.Native.Nat.{_-_}
 use native.Mathlib.Omega.{arith}
-use lib.ListN.{length, take}
+use lib.ListN.{length}
 use borrow.Author.Needs.{needs}
 use borrow.Author.Tests.{not-true, not-false}
 use Rattle.layout.specs.Words.{rows}
+use Rattle.layout.proofs.Rows.{length-rows}
 use Rattle.store.specs.Ids.{climbs, differ, ofClass, inClass}
 use Rattle.store.proofs.Classes.{left-none, front-stop, front-all, front-again, front-more, full-room, none-differ}
 use Rattle.store.proofs.ids.class_differs.Statement.{statement}
@@ -21,6 +22,9 @@ abbrev μ-loop : tie.MeasureT-loop
 -- the places that facts are taken from
 abbrev gathered : tie.After-put-in-order Inv-loop μ-loop → tie.After-gather Inv-loop μ-loop
 gathered c = c .before .before .before .before
+
+abbrev start : tie.After-put-in-order Inv-loop μ-loop → tie.Start Inv-loop μ-loop
+start c = gathered c .before .before .before .before .before .before
 
 abbrev looked : tie.After-none-again Inv-loop μ-loop → tie.After-put-in-order Inv-loop μ-loop
 looked c = c .before .before .before .before .before .before
@@ -52,14 +56,14 @@ returns-2 c =
     let put = c .before .before .before .before in
     let there = gathered put .gather .ensures .there in
     let loop = gathered put .before .before .before in
-    let args = loop .before .before .before .args in
+    let args = start put .args in
     let none = left-none (inClass (args .classes) (args .class)) (args .part .now) (gathered put .gather .result .next) (omega arith) in
     sym (front-all _ _ _ there (sym (put .put-in-order .ensures .0) ∙ not-false _ (c .before .if1 .left)) none) ∙ loop .loop .inv .1
 
 none-again-requires : tie.Need-none-again-requires Inv-loop μ-loop
 none-again-requires c κs =
     let put = c .before .before .before .before .before in
-    let full = full-room _ _ _ (put .put-in-order .ensures .1) (gathered put .gather .ensures .full (omega arith)) in (
+    let full = full-room _ _ _ (put .put-in-order .ensures .1) (gathered put .gather .ensures .full (omega (arith, length-rows (start put .args .part .now)))) in (
       search needs,
       omega arith,
       ap climbs full ∙ sym (put .put-in-order .ensures .0) ∙ not-false _ (c .before .before .if1 .left),
@@ -73,21 +77,21 @@ returns-3 c =
     let put = looked (c .before) in
     let there = gathered put .gather .ensures .there in
     let loop = gathered put .before .before .before .loop in
-    let full = full-room _ _ _ (put .put-in-order .ensures .1) (gathered put .gather .ensures .full (omega arith)) in
+    let full = full-room _ _ _ (put .put-in-order .ensures .1) (gathered put .gather .ensures .full (omega (arith, length-rows (start put .args .part .now)))) in
     let again = sym (c .before .none-again .ensures) ∙ not-true _ (c .if3 .taken) in
     sym (front-again _ _ _ there _ full again) ∙ loop .inv .1
 
 loop-less : tie.Need-loop-less Inv-loop μ-loop
 loop-less c =
     let put = looked (c .before) in
-    omega (arith, gathered put .gather .ensures .onward (omega arith))
+    omega (arith, gathered put .gather .ensures .onward (omega (arith, length-rows (start put .args .part .now))))
 
 loop-again : tie.Need-loop-again Inv-loop μ-loop
 loop-again c =
     let put = looked (c .before) in
     let there = gathered put .gather .ensures .there in
     let loop = gathered put .before .before .before .loop in
-    let full = full-room _ _ _ (put .put-in-order .ensures .1) (gathered put .gather .ensures .full (omega arith)) in
+    let full = full-room _ _ _ (put .put-in-order .ensures .1) (gathered put .gather .ensures .full (omega (arith, length-rows (start put .args .part .now)))) in
     let once = sym (put .put-in-order .ensures .0) ∙ not-false _ (c .before .before .before .before .if1 .left) in
     let no-more = sym (c .before .none-again .ensures) ∙ not-false _ (c .if3 .left) in
     (omega arith, front-more _ _ _ there _ full once no-more ∙ loop .inv .1)

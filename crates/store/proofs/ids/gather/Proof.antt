@@ -6,6 +6,7 @@ use native.Mathlib.Omega.{arith}
 use lib.ListN.{length, take, length-set}
 use borrow.Author.Tests.{eq-eqb, ne-eqb}
 use Rattle.layout.specs.Words.{rows}
+use Rattle.layout.proofs.Rows.{length-rows}
 use Rattle.store.specs.Ids.{ofClass, inClass}
 use Rattle.store.proofs.Classes.{left-hit, left-miss, gather-hit, gather-miss}
 use Rattle.store.proofs.ids.gather.Statement.{statement}
@@ -95,12 +96,8 @@ same-length-2 c = omega arith
 returns-2 : tie.Need-returns-2 Inv-loop μ-loop
 returns-2 c =
     let turn = c .before .loop in
-    record {
-      there = turn .inv .3;
-      fits = turn .inv .1;
-      full = λ h. absurd (omega arith);
-      onward = λ h. omega arith;
-    }
+    let count = length-rows (c .before .before .before .before .args .part .now) in
+    record { there = turn .inv .3; fits = turn .inv .1; full = λ h. absurd (omega (arith, count)); onward = λ h. omega (arith, count) }
 
 pub gather-spec : {M : Type 1} → statement M
 gather-spec =
