@@ -86,10 +86,11 @@ static const struct {
     NAMED(in_most_partitions), NAMED(to_the_end), NAMED(of_all_lengths), NAMED(brief), NAMED(points), NAMED(in_one_slot)
 };
 
-/* The product with 2654435769, by which the library parts the ids, is i: all fall into the first of the parts. */
+/* The library parts the ids by their product with `mix`. Here that is i, so that all fall into the first of the parts. */
 static uint32_t in_one_class(uint32_t i) {
-    uint32_t inverse = 2654435769u;
-    for (int k = 0; k < 5; k++) inverse *= 2 - 2654435769u * inverse;
+    const uint32_t mix = 2654435769u;
+    uint32_t inverse = mix;
+    for (int k = 0; k < 5; k++) inverse *= 2 - mix * inverse;
     return i * inverse;
 }
 

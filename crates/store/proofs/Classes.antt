@@ -12,9 +12,9 @@ use native.Mathlib.Omega.{arith}
 use native.Mathlib.Decide.{decLt}
 use lib.Dec.{T, eqb, eqb→eq, leb, ltb, ltb→lt}
 use lib.ListN.{length, getD, set, take, drop, drop-of-length-le}
-use lib.Seq.{drop-cons, take-suc-set, take-set-le, take-at, length-take-le}
+use lib.Seq.{take-suc-set, take-set-le, take-at, length-take-le}
 use borrow.Rule.Slice.PartMut.{midOf, putMid}
-use borrow.Author.Tests.{eq-eqb, leb-true, leb-false}
+use borrow.Author.Tests.{eq-eqb, ne-eqb, leb-true, leb-false}
 use Rattle.lists.specs.Lists.{keep, consIf, sort, ascending}
 use Rattle.lists.proofs.Tests.{of-and, to-and, of-three, to-three, of-or, or-left, or-right, to-T, of-T, of-no-T, of-not, to-not, agree, eq→eqb}
 use Rattle.lists.proofs.Members.{none, more, to-keep, pairs-keep, pairs-append, pairs-parts, of-sort, to-sort, length-sort}
@@ -25,7 +25,7 @@ use Rattle.trip.specs.declared.Trip.{Trip}
 use Rattle.layout.specs.Words.{entryWords, rows}
 use Rattle.store.specs.Entries.{wordEnd, ids}
 use Rattle.store.specs.Ids.{climbs, idsDiffer, differ, mixer, classOf, inClass, ofClass, among, apart}
-use Rattle.store.proofs.Differing.{climbs-sorted, every-id, step-at, steps-long, of-differ, to-differ}
+use Rattle.store.proofs.Differing.{climbs-sorted, every-id, steps-left, steps-over, of-differ, to-differ}
 
 -- ---- a loop over the rows of a part
 
@@ -33,27 +33,23 @@ use Rattle.store.proofs.Differing.{climbs-sorted, every-id, step-at, st
 abbrev pub idAt : List ℕ → ℕ → ℕ
 idAt l k = getD l (entryWords * k) 0
 
-ids-length : (l : List ℕ) → length (ids (rows l)) ≡ length l / entryWords
-ids-length l = ap length (sym (every-id l)) ∙ steps-long entryWords l
-
-ids-at : (l : List ℕ) (k : ℕ) → k < length l / entryWords → getD (ids (rows l)) k 0 ≡ idAt l k
-ids-at l k h = ap (λ (r : List ℕ). getD r k 0) (sym (every-id l)) ∙ step-at entryWords (omega arith) l k h
-
-module _ (p : ℕ → Bool) (l : List ℕ) (k : ℕ) where
+module _ (classes class : ℕ) (l : List ℕ) (k : ℕ) where
   row-left : k < length l / entryWords → drop k (ids (rows l)) ≡ idAt l k ∷ drop (k + 1) (ids (rows l))
-  row-left h = drop-cons (ids (rows l)) k 0 (rw (ids-length l) h) ∙ rw (add-one, ids-at l k h)
+  row-left h = rw (← every-id l) (steps-left entryWords l k h)
 
-  pub left-hit : k < length l / entryWords → p (idAt l k) ≡ true → keep p (drop k (ids (rows l))) ≡ idAt l k ∷ keep p (drop (k + 1) (ids (rows l)))
-  unfolding keep
-  left-hit h e = rw (row-left h, e)
+  -- one row more, whose class is c: it is one of this class, or it is not
+  module _ (h : k < length l / entryWords) {c : ℕ} (e : c ≡ classOf classes (idAt l k)) where
+    pub class-hit : c ≡ class → ofClass classes class (rows l) k ≡ idAt l k ∷ ofClass classes class (rows l) (k + 1)
+    unfolding keep
+    class-hit q = rw (row-left h, eq-eqb (classOf classes (idAt l k)) class (sym e ∙ q))
 
-  pub left-miss : k < length l / entryWords → p (idAt l k) ≡ false → keep p (drop k (ids (rows l))) ≡ keep p (drop (k + 1) (ids (rows l)))
-  unfolding keep
-  left-miss h e = rw (row-left h, e)
+    pub class-miss : (c ≡ class → ⊥) → ofClass classes class (rows l) k ≡ ofClass classes class (rows l) (k + 1)
+    unfolding keep
+    class-miss n = rw (row-left h, ne-eqb (classOf classes (idAt l k)) class (λ q. n (e ∙ q)))
 
-  pub left-none : length l / entryWords ≤ k → keep p (drop k (ids (rows l))) ≡ []
+  pub class-none : length l / entryWords ≤ k → ofClass classes class (rows l) k ≡ []
   unfolding keep
-  left-none h = let g : length (ids (rows l)) ≤ k = rw (ids-length l) h in rw (drop-of-length-le (ids (rows l)) g)
+  class-none h = rw (← every-id l, steps-over entryWords l k h)
 
 -- ---- gathered in the first words of a room
 
@@ -118,7 +114,7 @@ pub record Narrowed (x : ℕ) (l : List ℕ) (low width : ℕ) : Type 0 where
 pub narrow-start : (x : ℕ) (l : List ℕ) (n : ℕ) → 1 ≤ n → length l ≡ n → Narrowed x l 0 n
 narrow-start x l n h e = record { some = h; inside = omega (arith, e); only = λ j g q. (omega arith, omega (arith, e)) }
 
-pub rising : (l : List ℕ) → climbs l ≡ true → (i j : ℕ) → i < j → j < length l → getD l i 0 < getD l j 0
+rising : (l : List ℕ) → climbs l ≡ true → (i j : ℕ) → i < j → j < length l → getD l i 0 < getD l j 0
 rising l e i j h g = ltb→lt (getD l i 0) (getD l j 0) (to-T (in-order 0 ltb (climbs-sorted l (to-T e)) i j h g))
 
 rising-le : (l : List ℕ) → climbs l ≡ true → (i j : ℕ) → i ≤ j → j < length l → getD l i 0 ≤ getD l j 0

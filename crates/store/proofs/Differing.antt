@@ -3,7 +3,7 @@ use mathlib.Core.Path.{_≡_, refl, sym, ap, _∙_}
 use mathlib.Core.Bool.{Bool, true, false, cond}
 use mathlib.Core.List.{List, [], _∷_, List·Memᴰ as Mem, List·Memᴰ·head as here, List·Memᴰ·tail as there, List·Memᴰ·not-nil as not-nil}
 use Prim.Native.Nat.{ℕ, _+_, _*_, _/_, _≤_, _<_}
-use native.Mathlib.Nat.{mul-comm, suc-mul, one-mul, div-one, le-div-iff-mul-le}
+use native.Mathlib.Nat.{mul-comm, suc-mul, one-mul, mul-zero, div-one, le-div-iff-mul-le}
 use native.Mathlib.Numerals.{add-one}
 use native.Mathlib.Omega.{arith}
 use lib.Dec.{T, leb, ltb, ltb→lt}
@@ -71,47 +71,59 @@ pub every-id : (l : List ℕ) → everyStep entryWords l ≡ ids (rows l)
 unfolding everyStep
 every-id l = sym (ids-rows l)
 
-module _ (step : ℕ) (pos : 0 < step) (l : List ℕ) (i : ℕ) where
-  pub step-inside : i < length l / step → step * i < length l
-  step-inside h =
-      let all : (i + 1) * step ≤ length l = le-div-iff-mul-le {k = step} {x = i + 1} {y = length l} pos .0 (omega arith) in
-      omega (arith, all, mul-comm step i, suc-mul i step, ap (λ (k : ℕ). k * step) (add-one i))
+pub step-inside : (step : ℕ) → 0 < step → (l : List ℕ) (i : ℕ) → i < length l / step → step * i < length l
+step-inside step pos l i h =
+    let all : (i + 1) * step ≤ length l = le-div-iff-mul-le {k = step} {x = i + 1} {y = length l} pos .0 (omega arith) in
+    omega (arith, all, mul-comm step i, suc-mul i step, ap (λ (k : ℕ). k * step) (add-one i))
 
-  pub step-at : i < length l / step → getD (everyStep step l) i 0 ≡ getD l (step * i) 0
+-- ---- the loop over them
+
+climbs-none : (xs : List ℕ) → length xs ≡ 0 → climbs xs ≡ true
+unfolding climbs
+climbs-none [] h = refl
+climbs-none (x ∷ xs) h = absurd (omega arith)
+
+climbs-first : (xs : List ℕ) → 0 < length xs → climbsFrom (getD xs 0 0) (drop 1 xs) ≡ climbs xs
+unfolding climbs
+climbs-first [] h = absurd (omega arith)
+climbs-first (x ∷ xs) h = refl
+
+module _ (step : ℕ) (l : List ℕ) where
+  long : length (everyStep step l) ≡ length l / step
   unfolding everyStep
-  step-at h = getD-upTo (λ (k : ℕ). getD l (step * k) 0) (length l / step) i 0 h
+  long = length-upTo (λ (k : ℕ). getD l (step * k) 0) (length l / step)
 
-pub steps-long : (step : ℕ) (l : List ℕ) → length (everyStep step l) ≡ length l / step
-unfolding everyStep
-steps-long step l = length-upTo (λ (k : ℕ). getD l (step * k) 0) (length l / step)
+  at : (i : ℕ) → i < length l / step → getD (everyStep step l) i 0 ≡ getD l (step * i) 0
+  unfolding everyStep
+  at i h = getD-upTo (λ (k : ℕ). getD l (step * k) 0) (length l / step) i 0 h
 
--- ---- the loop over the words
+  pub steps-none : length l / step ≡ 0 → climbs (everyStep step l) ≡ true
+  steps-none h = climbs-none (everyStep step l) (long ∙ h)
 
-module _ (xs : List ℕ) (i : ℕ) where
-  left : i < length xs → drop i xs ≡ getD xs i 0 ∷ drop (i + 1) xs
-  left h = drop-cons xs i 0 h ∙ rw add-one
+  pub steps-first : 0 < length l / step → climbsFrom (getD l 0 0) (drop 1 (everyStep step l)) ≡ climbs (everyStep step l)
+  steps-first h =
+      let first : getD (everyStep step l) 0 0 ≡ getD l 0 0 = at 0 h ∙ ap (λ (k : ℕ). getD l k 0) (mul-zero step) in
+      ap (λ (x : ℕ). climbsFrom x (drop 1 (everyStep step l))) (sym first) ∙ climbs-first (everyStep step l) (rw long h)
 
-  pub ids-more : (n : ℕ) → i < length xs → n < getD xs i 0 → climbsFrom (getD xs i 0) (drop (i + 1) xs) ≡ climbsFrom n (drop i xs)
-  unfolding climbsFrom
-  ids-more n h e = rw (left h, lt-ltb n (getD xs i 0) e)
+  module _ (i : ℕ) where
+    pub steps-left : i < length l / step → drop i (everyStep step l) ≡ getD l (step * i) 0 ∷ drop (i + 1) (everyStep step l)
+    steps-left h = drop-cons (everyStep step l) i 0 (rw long h) ∙ rw (add-one, at i h)
 
-  pub ids-stop : (n : ℕ) → i < length xs → getD xs i 0 ≤ n → climbsFrom n (drop i xs) ≡ false
-  unfolding climbsFrom
-  ids-stop n h e = rw (left h, le-ltb n (getD xs i 0) e)
+    pub steps-over : length l / step ≤ i → drop i (everyStep step l) ≡ []
+    steps-over h = let g : length (everyStep step l) ≤ i = rw long h in drop-of-length-le (everyStep step l) g
 
-  pub ids-end : (n : ℕ) → length xs ≤ i → climbsFrom n (drop i xs) ≡ true
-  unfolding climbsFrom
-  ids-end n h = rw (drop-of-length-le xs h)
+    pub steps-more : (n : ℕ) → i < length l / step → n < getD l (step * i) 0
+        → climbsFrom (getD l (step * i) 0) (drop (i + 1) (everyStep step l)) ≡ climbsFrom n (drop i (everyStep step l))
+    unfolding climbsFrom
+    steps-more n h e = rw (steps-left h, lt-ltb n (getD l (step * i) 0) e)
 
-pub ids-none : (xs : List ℕ) → length xs ≡ 0 → climbs xs ≡ true
-unfolding climbs
-ids-none [] h = refl
-ids-none (x ∷ xs) h = absurd (omega arith)
+    pub steps-stop : (n : ℕ) → i < length l / step → getD l (step * i) 0 ≤ n → climbsFrom n (drop i (everyStep step l)) ≡ false
+    unfolding climbsFrom
+    steps-stop n h e = rw (steps-left h, le-ltb n (getD l (step * i) 0) e)
 
-pub ids-first : (xs : List ℕ) → 0 < length xs → climbsFrom (getD xs 0 0) (drop 1 xs) ≡ climbs xs
-unfolding climbs
-ids-first [] h = absurd (omega arith)
-ids-first (x ∷ xs) h = refl
+    pub steps-end : (n : ℕ) → length l / step ≤ i → climbsFrom n (drop i (everyStep step l)) ≡ true
+    unfolding climbsFrom
+    steps-end n h = rw (steps-over h)
 
 -- ---- ids that differ
 

@@ -23,13 +23,13 @@ climbs (x ∷ l) = climbsFrom x l
 unfoldable pub everyStep : (step : ℕ) → List ℕ → List ℕ
 everyStep step l = upTo (λ (k : ℕ). getD l (step * k) 0) (length l / step)
 
--- no id stands twice: in ascending order they climb
-unfoldable pub idsDiffer : List Trip → Bool
-idsDiffer ts = climbs (ascending (ids ts))
-
--- the same of a list of numbers
+-- no number stands twice: in ascending order they climb
 abbrev pub differ : List ℕ → Bool
 differ l = climbs (ascending l)
+
+-- no id stands twice
+unfoldable pub idsDiffer : List Trip → Bool
+idsDiffer ts = differ (ids ts)
 
 -- ---- class by class
 

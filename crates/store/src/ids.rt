@@ -60,7 +60,7 @@ struct Gathered {
 }
 
 // Gathers the ids of a class, from one row on, in the first words of a room, until the rows end or it is full. Each id is written, and the
-// next over it where it is of another class: so nothing is jumped over.
+// next over it where it is of another class: so no jump depends on the class.
 fn gather(part: &[u32], classes: u64, class: u64, from: usize, room: &mut [u32]) -> Gathered
     requires { ⌜ (classes ≤ wordEnd) × (0 < length (now room)) ⌝ }
     ensures { λ r. ⌜ Gathers classes class (rows (now (part .entry))) from (now (room .exit)) (r .found) (r .next) ⌝ }
@@ -101,7 +101,7 @@ fn passed(word: u32, id: u32, half: usize) -> usize
     0
 }
 
-// Whether a full room, in order, has an id: by halving, as many steps for each id, so that nothing is jumped over.
+// Whether a full room, in order, has an id: by halving, the same steps for each id, so that no jump depends on it.
 fn holds(room: &[u32], id: u32) -> bool
     requires { ⌜ (length (now room) ≡ roomLength) × (climbs (now room) ≡ true) ⌝ }
     ensures { λ r. ⌜ r ≡ among id (now (room .entry)) ⌝ }

@@ -7,8 +7,8 @@ use borrow.Author.Needs.{needs}
 use borrow.Author.Tests.{not-true, not-false}
 use Rattle.layout.specs.Words.{rows}
 use Rattle.layout.proofs.Rows.{length-rows}
-use Rattle.store.specs.Ids.{climbs, differ, ofClass, inClass}
-use Rattle.store.proofs.Classes.{left-none, front-stop, front-all, front-again, front-more, full-room, none-differ}
+use Rattle.store.specs.Ids.{climbs, differ, ofClass}
+use Rattle.store.proofs.Classes.{class-none, front-stop, front-all, front-again, front-more, full-room, none-differ}
 use Rattle.store.proofs.ids.class_differs.Statement.{statement}
 use Rattle.store.proofs.ids.class_differs.Tie as tie
 
@@ -57,7 +57,7 @@ returns-2 c =
     let there = gathered put .gather .ensures .there in
     let loop = gathered put .before .before .before in
     let args = start put .args in
-    let none = left-none (inClass (args .classes) (args .class)) (args .part .now) (gathered put .gather .result .next) (omega arith) in
+    let none = class-none (args .classes) (args .class) (args .part .now) (gathered put .gather .result .next) (omega arith) in
     sym (front-all _ _ _ there (sym (put .put-in-order .ensures .0) ∙ not-false _ (c .before .if1 .left)) none) ∙ loop .loop .inv .1
 
 none-again-requires : tie.Need-none-again-requires Inv-loop μ-loop
@@ -102,7 +102,7 @@ same-length-4 c = omega arith
 returns-4 : tie.Need-returns-4 Inv-loop μ-loop
 returns-4 c =
     let args = c .before .before .before .before .args in
-    let none = left-none (inClass (args .classes) (args .class)) (args .part .now) (c .before .loop .k) (omega arith) in
+    let none = class-none (args .classes) (args .class) (args .part .now) (c .before .loop .k) (omega arith) in
     sym (none-differ _ none) ∙ c .before .loop .inv .1
 
 pub class-differs-spec : {M : Type 1} → statement M

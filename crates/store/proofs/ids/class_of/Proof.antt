@@ -2,7 +2,7 @@
 use mathlib.Core.Path.{refl}
 use native.Mathlib.Nat.{mul-le-mul}
 use native.Mathlib.Omega.{arith}
-use Prim.Native.Nat.{_*_, _%_, _≤_}
+use Prim.Native.Nat.{_-_, _*_, _%_, _≤_}
 use borrow.Author.Needs.{needs}
 use Rattle.store.specs.Entries.{wordEnd}
 use Rattle.store.specs.Ids.{mixer, classOf}
@@ -14,7 +14,7 @@ mul-result c = search needs
 
 mul-result-2 : tie.Need-mul-result-2
 mul-result-2 c =
-    let low : c .args .id * mixer % wordEnd ≤ 4294967295 = omega arith in
+    let low : c .args .id * mixer % wordEnd ≤ wordEnd - 1 = omega arith in
     let few : c .args .classes ≤ wordEnd = search needs in
     omega (arith, mul-le-mul low few)
 

@@ -1,14 +1,13 @@
 -- What is left of the class from the first row on is what was gathered, and then what is left.
-use mathlib.Core.Path.{_≡_, refl, sym, _∙_}
+use mathlib.Core.Path.{_≡_, refl}
 use mathlib.Core.List.{_++_}
 use Prim.Native.Nat.{_+_, _-_, _≤_}
 use native.Mathlib.Omega.{arith}
 use lib.ListN.{length, take, length-set}
-use borrow.Author.Tests.{eq-eqb, ne-eqb}
 use Rattle.layout.specs.Words.{rows}
 use Rattle.layout.proofs.Rows.{length-rows}
-use Rattle.store.specs.Ids.{ofClass, inClass}
-use Rattle.store.proofs.Classes.{left-hit, left-miss, gather-hit, gather-miss}
+use Rattle.store.specs.Ids.{ofClass}
+use Rattle.store.proofs.Classes.{class-hit, class-miss, gather-hit, gather-miss}
 use Rattle.store.proofs.ids.gather.Statement.{statement}
 use Rattle.store.proofs.ids.gather.Tie as tie
 
@@ -68,10 +67,7 @@ loop-again c =
     let turn = c .before .before .before .before .before in
     let loop = turn .loop in
     let args = turn .before .before .before .args in
-    let p = inClass (args .classes) (args .class) in
-    let part = args .part .now in
-    let of-class = c .before .class-of .ensures in
-    let rest = left-hit p part (loop .k) (omega arith) (eq-eqb _ _ (sym of-class ∙ c .if2 .taken)) in
+    let rest = class-hit (args .classes) (args .class) (args .part .now) (loop .k) (omega arith) (c .before .class-of .ensures) (c .if2 .taken) in
     let there = gather-hit _ (loop .room) _ _ (loop .found) _ (omega arith) (loop .inv .3) rest in
     simp length-set (omega arith, omega arith, loop .inv .2, there)
 
@@ -83,10 +79,7 @@ loop-again-2 c =
     let turn = c .before .before .before .before .before in
     let loop = turn .loop in
     let args = turn .before .before .before .args in
-    let p = inClass (args .classes) (args .class) in
-    let part = args .part .now in
-    let of-class = c .before .class-of .ensures in
-    let rest = left-miss p part (loop .k) (omega arith) (ne-eqb _ _ (λ e. c .if2 .left (of-class ∙ e))) in
+    let rest = class-miss (args .classes) (args .class) (args .part .now) (loop .k) (omega arith) (c .before .class-of .ensures) (c .if2 .left) in
     let there = gather-miss _ (loop .room) _ _ (loop .found) _ (omega arith) (loop .inv .3) rest in
     simp length-set (omega arith, omega arith, loop .inv .2, there)
 

@@ -3,10 +3,9 @@ use mathlib.Core.Path.{_≡_, refl, sym, ap, _∙_}
 use Prim.Native.Nat.{_-_}
 use native.Mathlib.Omega.{arith}
 use borrow.Author.Needs.{needs}
-use borrow.Author.Tests.{eq-eqb, ne-eqb}
 use Rattle.layout.specs.Words.{rows}
-use Rattle.store.specs.Ids.{apart, ofClass, inClass}
-use Rattle.store.proofs.Classes.{idAt, left-hit, left-miss, left-none, apart-more, apart-stop, apart-none}
+use Rattle.store.specs.Ids.{apart, ofClass}
+use Rattle.store.proofs.Classes.{class-hit, class-miss, class-none, apart-more, apart-stop, apart-none}
 use Rattle.store.proofs.ids.none_again.Statement.{statement}
 use Rattle.store.proofs.ids.none_again.Tie as tie
 
@@ -41,12 +40,9 @@ returns : tie.Need-returns Inv-loop μ-loop
 returns c =
     let turn = c .before .before .before .before .before .before in
     let args = turn .before .before .before .args in
-    let part = args .part .now in
-    let k = turn .loop .k in
-    let p = inClass (args .classes) (args .class) in
-    let of-class = c .before .before .before .class-of .ensures in
-    let next = left-hit p part k (omega arith) (eq-eqb _ _ (sym of-class ∙ c .before .before .if1 .taken)) in
-    sym (apart-stop (args .room .now) _ _ (idAt part k) next (sym (c .before .holds .ensures) ∙ c .if2 .taken)) ∙ turn .loop .inv
+    let read = c .before .before .before .class-of .ensures in
+    let next = class-hit (args .classes) (args .class) (args .part .now) (turn .loop .k) (omega arith) read (c .before .before .if1 .taken) in
+    sym (apart-stop (args .room .now) _ _ _ next (sym (c .before .holds .ensures) ∙ c .if2 .taken)) ∙ turn .loop .inv
 
 loop-less : tie.Need-loop-less Inv-loop μ-loop
 loop-less c = omega arith
@@ -55,12 +51,9 @@ loop-again : tie.Need-loop-again Inv-loop μ-loop
 loop-again c =
     let turn = c .before .before .before .before .before .before in
     let args = turn .before .before .before .args in
-    let part = args .part .now in
-    let k = turn .loop .k in
-    let p = inClass (args .classes) (args .class) in
-    let of-class = c .before .before .before .class-of .ensures in
-    let next = left-hit p part k (omega arith) (eq-eqb _ _ (sym of-class ∙ c .before .before .if1 .taken)) in
-    apart-more (args .room .now) _ _ (idAt part k) next (sym (c .before .holds .ensures) ∙ c .if2 .left) ∙ turn .loop .inv
+    let read = c .before .before .before .class-of .ensures in
+    let next = class-hit (args .classes) (args .class) (args .part .now) (turn .loop .k) (omega arith) read (c .before .before .if1 .taken) in
+    apart-more (args .room .now) _ _ _ next (sym (c .before .holds .ensures) ∙ c .if2 .left) ∙ turn .loop .inv
 
 loop-less-2 : tie.Need-loop-less-2 Inv-loop μ-loop
 loop-less-2 c = omega arith
@@ -69,19 +62,14 @@ loop-again-2 : tie.Need-loop-again-2 Inv-loop μ-loop
 loop-again-2 c =
     let turn = c .before .before .before .before in
     let args = turn .before .before .before .args in
-    let part = args .part .now in
-    let k = turn .loop .k in
-    let p = inClass (args .classes) (args .class) in
-    let of-class = c .before .class-of .ensures in
-    let same = left-miss p part k (omega arith) (ne-eqb _ _ (λ e. c .if1 .left (of-class ∙ e))) in
+    let same = class-miss (args .classes) (args .class) (args .part .now) (turn .loop .k) (omega arith) (c .before .class-of .ensures) (c .if1 .left) in
     ap (apart (args .room .now)) (sym same) ∙ turn .loop .inv
 
 returns-2 : tie.Need-returns-2 Inv-loop μ-loop
 returns-2 c =
     let args = c .before .before .before .before .args in
-    let k = c .before .loop .k in
-    let none = left-none (inClass (args .classes) (args .class)) (args .part .now) k (omega arith) in
-    sym (apart-none (args .room .now) (ofClass (args .classes) (args .class) (rows (args .part .now)) k) none) ∙ c .before .loop .inv
+    let none = class-none (args .classes) (args .class) (args .part .now) (c .before .loop .k) (omega arith) in
+    sym (apart-none (args .room .now) _ none) ∙ c .before .loop .inv
 
 pub none-again-spec : {M : Type 1} → statement M
 none-again-spec =
