@@ -3,32 +3,25 @@
 use mathlib.Core.Path.{_≡_}
 use mathlib.Core.Bool.{true}
 use mathlib.Core.List.{List, List·Memᴰ as Mem}
-use Prim.Native.Nat.{ℕ, _+_, _-_, _^_, _<_}
+use Prim.Native.Nat.{ℕ, _+_, _-_}
 use lib.ListN.{length}
 use borrow.Rule.Slice.PartMut.{putMid}
-use Rattle.lists.proofs.Tests.{to-T}
 use Rattle.ruler.specs.declared.Ruler.{Ruler}
 use Rattle.ruler.specs.Ruler.{Scale, inBounds, scale}
-use Rattle.ruler.proofs.Fair.{fair}
 use Rattle.trip.specs.declared.Trip.{Trip}
 use Rattle.layout.specs.declared.Half.{Half}
 use Rattle.layout.specs.declared.Half.the-variants.{Originals, Replicas}
 use Rattle.layout.specs.declared.Outcome.the-variants.{Accepted}
 use Rattle.layout.specs.Words.{halfLength, Index, lengthsOf, layout}
-use Rattle.layout.specs.Refusals.{tableOf, addOutcome, removeOutcome, Fits}
+use Rattle.layout.specs.Refusals.{tableOf, addOutcome, removeOutcome}
 use Rattle.layout.specs.Calls.{index}
 use Rattle.layout.proofs.Indexes.{Indexed}
 use Rattle.layout.proofs.ByDirectory.{directory-long}
 use Rattle.layout.proofs.EditsBuild.{of-add, of-remove}
-use Rattle.layout.proofs.RulerCells.{deep-ruler}
+use Rattle.layout.proofs.RulerCells.{deep-ruler, last-cell}
 use Rattle.store.proofs.Halves.{two-halves}
 use Rattle.edit.specs.HalfEdited.{HalfOf, Adding, Removing}
 use Rattle.edit.proofs.IndexRead.{firstHalf, firstBack, secondHalf, first-of, second-of, both-of}
-
--- the times of a trip that the ruler takes have cells of the scale
-pub cells-in : (r : Ruler) → inBounds (r .numbers) ≡ true → (t : Trip) → Fits (scale r) t
-    → (scale r .cell (t .start) < 2 ^ scale r .m) × (scale r .cell (t .end) < 2 ^ scale r .m)
-cells-in r good t f = let w = fair (r .numbers) (to-T good) in (w .one-of (t .start) (f .starts), w .one-of (t .end) (f .ends))
 
 -- an edit of the index x: its words, as the halves of x, are what the edit of a half asks (Asks)
 pub record Edit (s : Scale) (x : Index) (Asks : Half → (dir arena : List ℕ) → Type 0) : Type 0 where
@@ -39,20 +32,20 @@ pub adding : (r : Ruler) → inBounds (r .numbers) ≡ true → (x : Index) (t :
     → Edit (scale r) x (λ half dir arena. Adding (scale r) half x t dir arena)
 adding r good x t a =
     let e = of-add (scale r) x t a in
-    let c = cells-in r good t (e .rowOk .fits) in
+    let f = e .rowOk .fits in
     record {
       is-index = e .is-index;
-      ready = λ half dir arena w. record { deep = deep-ruler r good; accepted = a; start-in = c .0; end-in = c .1; words-are = w };
+      ready = λ half dir arena w. record { deep = deep-ruler r good; accepted = a; fits = f; end-in = last-cell r good t f; words-are = w };
     }
 
 pub removing : (r : Ruler) → inBounds (r .numbers) ≡ true → (x : Index) (t : Trip) → removeOutcome (scale r) x (t .id) ≡ Accepted
     → Mem t (tableOf (scale r) x) → Edit (scale r) x (λ half dir arena. Removing (scale r) half x t dir arena)
 removing r good x t a m =
     let e = of-remove (scale r) x (t .id) a .is-index in
-    let c = cells-in r good t (e .table .rowsOk .fits t m) in
+    let f = e .table .rowsOk .fits t m in
     record {
       is-index = e;
-      ready = λ half dir arena w. record { accepted = a; start-in = c .0; end-in = c .1; present = m; words-are = w };
+      ready = λ half dir arena w. record { accepted = a; fits = f; end-in = last-cell r good t f; present = m; words-are = w };
     }
 
 module _ (s : Scale) (x : Index) (Asks : Half → (dir arena : List ℕ) → Type 0) (e : Edit s x Asks) {half : ℕ} (cut : half ≡ halfLength (s .m)) where

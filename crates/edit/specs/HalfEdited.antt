@@ -9,7 +9,7 @@ use Rattle.layout.specs.declared.Half.{Half}
 use Rattle.layout.specs.declared.Outcome.the-variants.{Accepted}
 use Rattle.layout.specs.Words.{directoryHalf, Index}
 use Rattle.layout.specs.Words as laid
-use Rattle.layout.specs.Refusals.{tableOf, addOutcome, removeOutcome}
+use Rattle.layout.specs.Refusals.{tableOf, addOutcome, removeOutcome, Fits}
 use Rattle.store.specs.Parts.{arenaOf}
 
 -- these are the half's words in the index of the trips ts, in an arena as long as that of x
@@ -17,18 +17,18 @@ pub record HalfOf (s : Scale) (half : Half) (ts : List Trip) (x : Index) (dir ar
   pub directory-is : dir ≡ directoryHalf s half ts
   pub arena-is : arena ≡ laid.arena s half ts (length (arenaOf half (x .originals) (x .replicas)))
 
--- the half's words in x, to which the trip can be added; the scale is no deeper than a ruler's, and the trip's times have cells of it
+-- the half's words in x, to which the trip can be added; the scale is no deeper than a ruler's, and the trip fits it
 pub record Adding (s : Scale) (half : Half) (x : Index) (t : Trip) (dir arena : List ℕ) : Type 0 where
   pub deep : s .m ≤ deepest
   pub accepted : addOutcome s x t ≡ Accepted
-  pub start-in : s .cell (t .start) < 2 ^ s .m
+  pub fits : Fits s t
   pub end-in : s .cell (t .end) < 2 ^ s .m
   pub words-are : HalfOf s half (tableOf s x) x dir arena
 
 -- the half's words in x, from which the trip can be removed
 pub record Removing (s : Scale) (half : Half) (x : Index) (t : Trip) (dir arena : List ℕ) : Type 0 where
   pub accepted : removeOutcome s x (t .id) ≡ Accepted
-  pub start-in : s .cell (t .start) < 2 ^ s .m
+  pub fits : Fits s t
   pub end-in : s .cell (t .end) < 2 ^ s .m
   pub present : Mem t (tableOf s x)
   pub words-are : HalfOf s half (tableOf s x) x dir arena

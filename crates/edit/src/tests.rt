@@ -13,13 +13,13 @@ use store::places;
 use trip::Trip;
 ghost use mathlib.Core.Path.{_≡_};
 ghost use mathlib.Core.Bool.{true};
-ghost use Prim.Native.Nat.{_+_, _*_, _^_, _<_, _≤_};
+ghost use Prim.Native.Nat.{_+_, _*_, _<_, _≤_};
 ghost use lib.Dec.{ltb};
 ghost use lib.ListN.{length};
 ghost use Rattle.ruler.specs.Ruler.{inBounds, scale};
 ghost use Rattle.layout.specs.declared.Outcome.{Outcome};
 ghost use Rattle.layout.specs.Words.{entryWords, rows};
-ghost use Rattle.layout.specs.Refusals.{rowTests, checkOutcome, addOutcome};
+ghost use Rattle.layout.specs.Refusals.{rowTests, checkOutcome, addOutcome, Fits};
 ghost use Rattle.layout.specs.Calls.{index};
 ghost use Rattle.store.specs.TripWalk.{slotsOfTrip};
 ghost use Rattle.store.specs.Passes.{mostEntries};
@@ -44,7 +44,7 @@ pub fn find_id(part: &[u32], id: u32) -> usize
 // How many entries a trip has in a half.
 fn entries_of_trip(ruler: Ruler, half: Half, t: Trip) -> usize
     requires { ⌜ inBounds (ruler .numbers) ≡ true ⌝ }
-    requires { ⌜ (scale ruler .cell (t .start) < 2 ^ scale ruler .m) × (scale ruler .cell (t .end) < 2 ^ scale ruler .m) ⌝ }
+    requires { ⌜ Fits (scale ruler) t ⌝ }
     ensures { λ r. ⌜ (r ≡ length (slotsOfTrip (scale ruler) half t)) × (r ≤ mostSlots) ⌝ }
 {
     let mut spots = [0u32; places::MOST_SLOTS];
@@ -54,7 +54,7 @@ fn entries_of_trip(ruler: Ruler, half: Half, t: Trip) -> usize
 // Whether an arena of so many words lacks room for `used` entries and those of the trip.
 fn lacks_room(ruler: Ruler, half: Half, used: usize, words: usize, t: Trip) -> bool
     requires { ⌜ inBounds (ruler .numbers) ≡ true ⌝ }
-    requires { ⌜ (scale ruler .cell (t .start) < 2 ^ scale ruler .m) × (scale ruler .cell (t .end) < 2 ^ scale ruler .m) × (used ≤ mostEntries) ⌝ }
+    requires { ⌜ Fits (scale ruler) t × (used ≤ mostEntries) ⌝ }
     ensures { λ r. ⌜ r ≡ ltb words (entryWords * (used + length (slotsOfTrip (scale ruler) half t))) ⌝ }
 {
     words < ENTRY_WORDS * (used + entries_of_trip(ruler, half, t))

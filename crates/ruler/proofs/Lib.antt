@@ -4,3 +4,4 @@ pub mod Fair
 pub mod RulerMade
 pub mod Shift
 pub mod Small
+pub mod Zeros

@@ -2,6 +2,7 @@
 use mathlib.Core.Bool.{Bool, cond, _&&_}
 use Prim.Native.Nat.{ℕ, _+_, _-_, _*_, _/_, _%_, _^_}
 use lib.Dec.{leb, ltb, eqb}
+use lib.Count.{trailingZeros}
 use Rattle.ruler.specs.declared.Time.{Time}
 use Rattle.ruler.specs.declared.Cell.{Cell}
 use Rattle.ruler.specs.declared.Numbers.{Numbers}
@@ -120,6 +121,10 @@ lastIn m c = cellOf m ((c .1 + 1) * 2 ^ (m - c .0) - 1)
 -- it is the first of the cells of its level that lie in one cell of level L
 unfoldable pub begins : Cell → (L : ℕ) → Bool
 begins c L = eqb (c .1 % 2 ^ (c .0 - L)) 0
+
+-- how many levels up it still is the first of the cells that lie in one: all levels where its number is 0, else as many as zeros end that number
+abbrev pub levelsBegun : Cell → ℕ
+levelsBegun c = trailingZeros (c .0) (c .1)
 
 -- as many cells as come before it, level after level from level 0 on
 abbrev pub cellRank : Cell → ℕ

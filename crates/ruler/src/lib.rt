@@ -1,10 +1,10 @@
 // The ruler: raw times, cells at a level, and the numbers that a caller names a ruler by.
 ghost use mathlib.Core.Path.{_≡_};
 ghost use mathlib.Core.Bool.{true};
-ghost use Prim.Native.Nat.{_+_, _^_, _<_, _≤_};
+ghost use Prim.Native.Nat.{_+_, _-_, _^_, _<_, _≤_};
 ghost use Rattle.ruler.specs.Ruler.{timeAt, before, sameTime, noLater, nextTime, widest, deepest, mostTrips, inBounds, judge, scale, bottomOf};
 ghost use Rattle.ruler.specs.Ruler.{cellOf, cellAt, bottomCell, sameCell, noLaterCell, nextCell, cellAbove, cellIn, parity, firstOfTwo};
-ghost use Rattle.ruler.specs.Ruler.{firstIn, lastIn, begins, cellRank};
+ghost use Rattle.ruler.specs.Ruler.{firstIn, lastIn, begins, levelsBegun, cellRank};
 
 // A raw time: whole seconds on the service day, which may pass 24:00:00. Its field is private: outside this crate a time can only be given
 // to the functions below, of which none but `Ruler::cell` and `Ruler::bottom_cell` has to do with cells. Its number leaves it by `seconds`,
@@ -143,6 +143,22 @@ impl Cell {
         ensures { λ r. ⌜ r ≡ begins self level ⌝ }
     {
         self.1 % power(self.0 - level) == 0
+    }
+
+    // How many levels up it still is the first of the cells that lie in one. The bit above its level's numbers ends the count at level 0.
+    pub fn levels_begun(self) -> u32
+        requires { ⌜ (self .0 ≤ deepest) × (self .1 < 2 ^ self .0) ⌝ }
+        ensures { λ r. ⌜ r ≡ levelsBegun self ⌝ }
+    {
+        u32::trailing_zeros(self.1 + power(self.0))
+    }
+
+    // How many levels up a cell has no more cells of this level than there are from this one to a later one.
+    pub fn levels_spanned(self, last: Cell) -> u32
+        requires { ⌜ (self .0 ≤ deepest) × (self .1 ≤ last .1) × (last .1 < 2 ^ self .0) ⌝ }
+        ensures { λ r. ⌜ (2 ^ r ≤ last .1 - self .1 + 1) × (last .1 - self .1 + 1 < 2 ^ (r + 1)) ⌝ }
+    {
+        31 - u32::leading_zeros(last.1 - self.1 + 1)
     }
 
     // As many cells as come before it, level after level from level 0 on.

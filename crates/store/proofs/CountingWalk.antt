@@ -139,3 +139,11 @@ module _ (m a b : ℕ) where
       let v : Walk 0 from to held all = rw z at w in
       let c = span-count (λ i. within m 0 i a b) from to (v .into) (v .outof) 1 (v .high) in
       omega (arith, v .sum, one-level-more m a b 0 (omega arith), none-above m a b)
+
+  -- a level with none has none above it
+  pub walk-done : (L from to held all : ℕ) → Walk L from to held all → to ≤ from → held ≡ all
+  walk-done zero from to held all w h = omega (arith, walk-end zero from to held all 0 refl w (omega arith))
+  walk-done (suc L) from to held all w h =
+      let d : suc L - 1 ≡ L = omega arith in
+      let up = rw d at (walk-turn (suc L) from to held all 0 (omega arith) w (omega arith)) in
+      omega (arith, walk-done L ((from + 1) / 2) (to / 2) (held + 0) all up (omega arith))

@@ -45,7 +45,7 @@ unfolding climbsFrom
 sorted-from {l = []} s = tt
 sorted-from {x} {l = y ∷ l} (more a s) = to-and (ltb x y) (climbsFrom y l) (a y (here refl)) (sorted-from s)
 
-sorted-climbs : {l : List ℕ} → Sorted ltb l → T (climbs l)
+pub sorted-climbs : {l : List ℕ} → Sorted ltb l → T (climbs l)
 unfolding climbs
 sorted-climbs {l = []} s = tt
 sorted-climbs {l = x ∷ l} s = sorted-from s

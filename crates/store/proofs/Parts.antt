@@ -3,11 +3,11 @@
 use mathlib.Core.Path.{_≡_, refl, sym, ap, ap₂, _∙_}
 use mathlib.Core.Bool.{true, _&&_}
 use mathlib.Core.List.{List, [], _∷_, _++_, append-assoc, append-nil}
-use Prim.Native.Nat.{ℕ, zero, suc, _+_, _-_, _*_, _≤_, _<_}
+use Prim.Native.Nat.{ℕ, zero, suc, _+_, _-_, _*_, _/_, _≤_, _<_}
 use native.Mathlib.Omega.{arith}
 use lib.Dec.{leb, leb→le, le→leb}
-use lib.ListN.{length, getD, set, take, drop, replicate, length-append, take-append-drop}
-use lib.Seq.{take-at, drop-at, take-add, drop-drop, drop-cons, set-split}
+use lib.ListN.{length, getD, set, take, drop, replicate, length-append, length-drop, take-append-drop}
+use lib.Seq.{length-take-le, take-at, drop-at, take-add, drop-drop, drop-cons, set-split}
 use borrow.Rule.Slice.PartMut.{putMid}
 use Rattle.lists.proofs.Tests.{of-and, to-and, to-T, of-T}
 use Rattle.lists.specs.Lists.{joined}
@@ -40,6 +40,13 @@ module _ (dir arena : List ℕ) (j k : ℕ) where
   part-words w =
       rw (of-T (leb starts ends && leb ends (length arena))
       (to-and (leb starts ends) (leb ends (length arena)) (le→leb starts ends (words-le (w .rises))) (le→leb ends (length arena) (w .room)))) refl
+
+  -- its words tell how many entries it has
+  pub part-entries : PartThere dir arena j k → length (partWords dir arena j k) / entryWords ≡ getD dir k 0 - getD dir j 0
+  unfolding partWords
+  part-entries w =
+      let long = length-take-le (ends - starts) (drop starts arena) (rw length-drop (omega (arith, w .room))) in
+      omega (arith, long, w .rises)
 
 -- ---- the words of a part as slots
 

@@ -1,12 +1,12 @@
 -- The loop that writes the slots of a trip: what is written and what the rest of the walk will write are, together, the whole walk.
 use mathlib.Core.Path.{_≡_, refl, sym, ap, _∙_}
-use mathlib.Core.List.{List, [], _++_, append-assoc}
+use mathlib.Core.List.{List, [], _∷_, _++_, append-assoc}
 use Prim.Native.Nat.{ℕ, suc, _+_, _-_, _*_, _/_, _%_, _^_, _≤_, _<_}
 use native.Mathlib.Nat.{two-pow-succ}
 use native.Mathlib.Numerals.{add-one}
 use native.Mathlib.Omega.{arith}
 use lib.Dec.{eqb}
-use lib.ListN.{length, length-append}
+use lib.ListN.{length, set, length-append}
 use lib.Seq.{sets, sets-eq, length-sets}
 use borrow.Author.Tests.{lt-ltb}
 use Rattle.lists.proofs.Stores.{sets-append}
@@ -24,6 +24,12 @@ unfolding over
 sets-over l v h = let e : 0 + length v ≡ length v = omega arith in sets-eq v l 0 (rw e h) ∙ rw e
 
 -- the walk has n slots written and the levels below `level` left, of which the partitions lo .. hi - 1 lie in the trip's cells
+-- one word over the first
+pub set-first : (l : List ℕ) (x : ℕ) → 0 < length l → set l 0 x ≡ over (x ∷ []) l
+unfolding over
+set-first [] x h = absurd (omega arith)
+set-first (y ∷ l) x h = refl
+
 pub record Walking (half : Half) (spots₀ spots : List ℕ) (n level lo hi ca cb : ℕ) (whole : List ℕ) : Type 0 where
   pub all : sets spots n (walk half level lo hi ca cb) ≡ sets spots₀ 0 whole
   pub many : n + length (walk half level lo hi ca cb) ≡ length whole

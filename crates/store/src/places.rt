@@ -8,10 +8,13 @@ ghost use mathlib.Core.Bool.{true};
 ghost use Prim.Native.Nat.{_+_, _^_, _<_, _≤_};
 ghost use lib.ListN.{length};
 ghost use Rattle.ruler.specs.Ruler.{deepest, inBounds, scale};
+ghost use Rattle.layout.specs.declared.Half.the-variants.{Replicas};
 ghost use Rattle.layout.specs.Words.{slotNumber};
+ghost use Rattle.layout.specs.Refusals.{Fits};
 ghost use Rattle.store.specs.TripWalk.{inHalf, visit, slotsOf, slotsOfTrip};
 ghost use Rattle.lists.specs.Lists.{over};
 ghost use Rattle.store.specs.TripSlots.{mostSlots, Level, Wrote, visitsAt};
+ghost use Rattle.store.specs.Homes.{homeLevel, home};
 
 // Two slots of each level: more are never visited.
 pub const MOST_SLOTS: usize = 22;
@@ -116,16 +119,57 @@ pub fn slots_of(half: Half, a: Cell, b: Cell, spots: &mut [u32]) -> usize
     }
 }
 
-// The same of a trip, by the cells of its times.
+// The level of the original entry of a trip with the cells a .. b of the deepest level. Its partition begins with the cell a: so many levels up a
+// partition can begin there, so many levels up it has no more cells than a .. b, and the fewer of both are climbed.
+fn home_level(a: Cell, b: Cell) -> u32
+    requires { ⌜ (a .0 ≤ deepest) × (b .0 ≡ a .0) × (a .1 ≤ b .1) × (b .1 < 2 ^ a .0) ⌝ }
+    ensures { λ r. ⌜ r ≡ homeLevel (a .0) (a .1) (b .1) (a .0) ⌝ }
+{
+    let begun = a.levels_begun();
+    let spanned = a.levels_spanned(b);
+    if begun < spanned {
+        return a.level() - begun;
+    }
+    a.level() - spanned
+}
+
+// The slot of a trip's original entry.
+pub fn home(ruler: Ruler, t: Trip) -> u32
+    requires { ⌜ inBounds (ruler .numbers) ≡ true ⌝ }
+    requires { ⌜ Fits (scale ruler) t ⌝ }
+    ensures { λ r. ⌜ r ≡ home (scale ruler) t ⌝ }
+{
+    let a = ruler.bottom_cell(t.start);
+    let b = ruler.bottom_cell(t.end);
+    let level = home_level(a, b);
+    let partition = a.at_level(level);
+    slot_number(partition, !b.at_level(level).same(partition))
+}
+
+// The slots of a trip's replicas, by the cells of its times.
+fn replica_slots(ruler: Ruler, t: Trip, spots: &mut [u32]) -> usize
+    requires { ⌜ inBounds (ruler .numbers) ≡ true ⌝ }
+    requires { ⌜ Fits (scale ruler) t × (mostSlots ≤ length (now spots)) ⌝ }
+    ensures { λ r.
+        ⌜ (r ≡ length (slotsOfTrip (scale ruler) Replicas t)) × (now (spots .exit) ≡ over (slotsOfTrip (scale ruler) Replicas t) (now (spots .entry))) ⌝ }
+{
+    let first = ruler.bottom_cell(t.start);
+    let last = ruler.bottom_cell(t.end);
+    slots_of(Half::Replicas, first, last, spots)
+}
+
+// Writes the slots of a half in which a trip has an entry, and says how many. Its one original needs no walk.
 pub fn trip_slots(ruler: Ruler, half: Half, t: Trip, spots: &mut [u32]) -> usize
     requires { ⌜ inBounds (ruler .numbers) ≡ true ⌝ }
-    requires { ⌜ (scale ruler .cell (t .start) < 2 ^ scale ruler .m) × (scale ruler .cell (t .end) < 2 ^ scale ruler .m) × (mostSlots ≤ length (now spots)) ⌝ }
+    requires { ⌜ Fits (scale ruler) t × (mostSlots ≤ length (now spots)) ⌝ }
     ensures { λ r.
         ⌜ (r ≡ length (slotsOfTrip (scale ruler) half t)) × (now (spots .exit) ≡ over (slotsOfTrip (scale ruler) half t) (now (spots .entry))) ⌝ }
 {
-    let start = t.start;
-    let end = t.end;
-    let first = ruler.bottom_cell(start);
-    let last = ruler.bottom_cell(end);
-    slots_of(half, first, last, spots)
+    match half {
+        Half::Originals => {
+            spots[0] = home(ruler, t);
+            1
+        }
+        Half::Replicas => replica_slots(ruler, t, spots),
+    }
 }

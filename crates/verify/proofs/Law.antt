@@ -30,12 +30,13 @@ use Rattle.layout.proofs.LocalConditions.{slotsOf, Standing, Proper, Laid, orig
 use Rattle.layout.proofs.Chains.{of-onRuler, to-onRuler}
 use Rattle.store.specs.Ids.{idsDiffer}
 use Rattle.store.proofs.Differing.{of-idsDiffer, to-idsDiffer}
+use Rattle.store.specs.Homes.{home}
 use Rattle.store.specs.Halves.{total}
 use Rattle.store.proofs.Halves.{total-at, two-halves, first-lent, second-lent, first-long, second-long}
 use Rattle.verify.specs.Passing.{each, some}
-use Rattle.verify.specs.Local.{halfOk, slotAt, tripsOf, standsAt, slotOk, slotsOk, home, isKnown, countsTo, halvesOk, allSlotsOk, tripsOk, locally}
+use Rattle.verify.specs.Local.{halfOk, slotAt, tripsOf, standsAt, slotOk, slotsOk, isKnown, countsTo, halvesOk, allSlotsOk, tripsOk, locally}
 use Rattle.verify.proofs.Passing.{bool-ext, of-below, to-below, of-each, to-each, of-some, to-some, row-passes, row-sorted, to-row}
-use Rattle.verify.proofs.Home.{home-lt, home-slot}
+use Rattle.store.proofs.Homes.{home-lt, home-slot}
 use Rattle.verify.proofs.SlotsCut.{of-half, to-half, count-cut, cut-laid, trips-cut, laid-length, laid-cut, laid-at}
 
 -- ---- one half

@@ -3,7 +3,6 @@ pub mod PartitionBounds
 pub mod LoopTurns
 pub mod SlotsCut
 pub mod Passing
-pub mod Home
 pub mod Known
 pub mod Law
 pub mod TestsPassed

@@ -10,10 +10,14 @@ use lib.ListN.{length, getD, drop, drop-of-length-le}
 use lib.Seq.{drop-cons}
 use borrow.Author.Tests.{le-leb, lt-leb, eq-eqb, ne-eqb}
 use Rattle.lists.specs.Lists.{sumOver}
+use Rattle.lists.proofs.Tests.{of-T, to-T}
+use Rattle.lists.proofs.Halving.{at-mem}
 use Rattle.trip.specs.declared.Trip.{Trip}
 use Rattle.layout.specs.Words.{entryWords, tripAt, rows}
 use Rattle.layout.proofs.Rows.{length-rows, getD-rows}
+use Rattle.store.specs.Ordered.{noTrip}
 use Rattle.verify.specs.Passing.{below, each, after, inRow, rising, blank}
+use Rattle.verify.proofs.Passing.{of-each}
 
 -- ---- words
 
@@ -53,8 +57,13 @@ module _ (part : List ℕ) where
       let here : getD (rows part) k (tripAt part k) ≡ tripAt part k = getD-rows part k (tripAt part k) h in
       drop-cons (rows part) k (tripAt part k) (rw length-rows h) ∙ rw (here, add-one)
 
-  row-none : (k : ℕ) → length part / entryWords ≤ k → drop k (rows part) ≡ []
+  pub row-none : (k : ℕ) → length part / entryWords ≤ k → drop k (rows part) ≡ []
   row-none k h = drop-of-length-le (rows part) {i = k} (rw length-rows h)
+
+  -- one of rows that all pass
+  pub each-row : (p : Trip → Bool) → each p (rows part) ≡ true → (k : ℕ) → k < length part / entryWords → p (tripAt part k) ≡ true
+  each-row p e k h =
+      of-T _ (rw (getD-rows part k noTrip h) at (of-each p (rows part) (to-T e) (getD (rows part) k noTrip) (at-mem noTrip (rows part) k (rw length-rows h))))
 
   module _ (p : Trip → Bool) (k : ℕ) where
     pub each-more : k < length part / entryWords → p (tripAt part k) ≡ true → each p (drop (k + 1) (rows part)) ≡ each p (drop k (rows part))

@@ -1,19 +1,20 @@
 -- The local conditions on words: tests that lay nothing out anew, and that pass exactly where `isIndex` does (the law `locally-index`).
-use mathlib.Core.Bool.{Bool, cond, not, _&&_}
+use mathlib.Core.Bool.{Bool, _&&_}
 use mathlib.Core.List.{List}
-use Prim.Native.Nat.{ℕ, zero, suc, _+_, _-_, _*_, _/_, _%_}
+use Prim.Native.Nat.{ℕ, _+_, _-_, _*_, _/_, _%_}
 use lib.Dec.{leb, eqb}
 use lib.ListN.{length, getD, take, drop}
 use Rattle.lists.specs.Lists.{sumOver}
-use Rattle.ruler.specs.Ruler.{Scale, mostTrips, cellUp}
+use Rattle.ruler.specs.Ruler.{Scale, mostTrips}
 use Rattle.trip.specs.declared.Trip.{Trip}
 use Rattle.trip.specs.Trips.{sameTrip}
 use Rattle.layout.specs.declared.Half.{Half}
 use Rattle.layout.specs.declared.Half.the-variants.{Originals, Replicas}
 use Rattle.layout.specs.declared.Subdivision.{Subdivision}
-use Rattle.layout.specs.Stored.{within, isIn, belongs, subdivisionOf}
-use Rattle.layout.specs.Words.{entryWords, rows, order, levelOf, placeOf, partitionsHolding, slotNumber}
+use Rattle.layout.specs.Stored.{belongs, subdivisionOf}
+use Rattle.layout.specs.Words.{entryWords, rows, order, levelOf, placeOf, partitionsHolding}
 use Rattle.layout.specs.Refusals.{fits}
+use Rattle.store.specs.Homes.{home}
 use Rattle.store.specs.Halves.{total}
 use Rattle.store.specs.Parts.{partWords}
 use Rattle.store.specs.Ids.{idsDiffer}
@@ -52,18 +53,6 @@ unfoldable pub slotsOk : Scale → Half → (directory arena : List ℕ) → Boo
 slotsOk s h dir arena = below (λ k. slotOk s h k (slotAt dir arena k)) (length dir - 1)
 
 -- ---- a replica's original
-
--- the level of the original entry, of the levels 0 .. L: the highest on which the partition of the first cell lies in a..b
-unfoldable pub homeLevel : (m a b L : ℕ) → ℕ
-homeLevel m a b zero = zero
-homeLevel m a b (suc L) = cond (within m L (cellUp m L a) a b) (homeLevel m a b L) (suc L)
-
--- its slot, where it is at level L; and its slot
-unfoldable pub homeAt : Scale → (L : ℕ) → Trip → ℕ
-homeAt s L t = let i = cellUp (s .m) L (s .cell (t .start)) in slotNumber L i (not (isIn s L i t))
-
-unfoldable pub home : Scale → Trip → ℕ
-home s t = homeAt s (homeLevel (s .m) (s .cell (t .start)) (s .cell (t .end)) (s .m)) t
 
 -- the original of a replica stands in its slot
 unfoldable pub isKnown : Scale → (directory originals : List ℕ) → Trip → Bool

@@ -1,106 +1,101 @@
-// A replica's original: the slot where it has to stand, and a search for it there.
-use crate::partition::fits;
-use crate::partition::lies_in;
+// A replica's original: a search for it in the slot where it has to stand.
 use layout::ENTRY_WORDS;
-use layout::Subdivision;
-use ruler::Cell;
 use ruler::Ruler;
+use store::entry::START_AT;
 use store::entry::trip_at;
+use store::ordering::key_at;
 use store::part::part_there;
-use store::places::slot_number;
-use store::search::find_place;
+use store::places::home;
 use trip::Trip;
 ghost use mathlib.Core.Path.{_≡_};
-ghost use mathlib.Core.Bool.{true};
-ghost use Prim.Native.Nat.{_+_, _^_, _<_, _≤_};
+ghost use mathlib.Core.Bool.{true, cond};
+ghost use Prim.Native.Nat.{_+_, _/_};
+ghost use lib.Dec.{leb};
 ghost use lib.ListN.{length};
 ghost use Rattle.lists.specs.Sifting.{InOrder};
-ghost use Rattle.ruler.specs.Ruler.{deepest, inBounds, scale};
+ghost use Rattle.ruler.specs.Ruler.{inBounds, scale};
 ghost use Rattle.layout.specs.declared.Half.the-variants.{Originals};
 ghost use Rattle.layout.specs.declared.Subdivision.the-variants.{OIn};
-ghost use Rattle.layout.specs.Words.{rows, order, halfLength};
+ghost use Rattle.layout.specs.Words.{entryWords, rows, order, halfLength};
 ghost use Rattle.layout.specs.Refusals.{fits};
-ghost use Rattle.store.specs.Ordered.{noTrip};
+ghost use Rattle.store.specs.Ordered.{noTrip, keyPlace, keyBy};
 ghost use Rattle.store.specs.Parts.{PartThere};
 ghost use Rattle.verify.specs.Passing.{each, some};
-ghost use Rattle.verify.specs.Local.{halfOk, slotAt, slotsOk, homeLevel, home, isKnown};
+ghost use Rattle.verify.specs.Local.{halfOk, slotAt, slotsOk, isKnown};
 ghost use Rattle.trip.specs.Trips.{sameTrip};
 
-// The level of the original entry of a trip with the level-m cells a..b.
-fn home_level(a: Cell, b: Cell) -> u32
-    requires { ⌜ (a .0 ≤ deepest) × (b .0 ≡ a .0) × (a .1 < 2 ^ a .0) ⌝ }
-    ensures { λ r. ⌜ r ≡ homeLevel (a .0) (a .1) (b .1) (a .0) ⌝ }
+// The later of two places, if the key that stands there is not above the one that is looked for; else the other.
+fn narrowed(there: u64, key: u64, later: usize, low: usize) -> usize
+    ensures { λ r. ⌜ r ≡ cond (leb there key) later low ⌝ }
 {
-    let mut level = a.level();
-    while 0 < level {
-        let above = level - 1;
-        if !lies_in(a.at_level(above), a, b) {
-            return level;
-        }
-        level = above;
+    if there <= key {
+        return later;
     }
-    0
+    low
 }
 
-// The slot of the original entry.
-fn home(ruler: Ruler, t: Trip) -> usize
-    requires { ⌜ inBounds (ruler .numbers) ≡ true ⌝ }
-    requires { ⌜ fits (scale ruler) t ≡ true ⌝ }
-    ensures { λ r. ⌜ r ≡ home (scale ruler) t ⌝ }
-{
-    let a = ruler.bottom_cell(t.start);
-    let b = ruler.bottom_cell(t.end);
-    let level = home_level(a, b);
-    let partition = a.at_level(level);
-    let ends = b.at_level(level).same(partition);
-    slot_number(partition, !ends) as usize
-}
-
-// Whether the trip is one of a part that is in the order of originals: at its place there, or nowhere.
-fn has_trip(part: &[u32], t: Trip) -> bool
+// Whether the trip, whose key is known, is one of a part that is in the order of originals: by halving, so many steps as the part's length tells.
+fn has_trip(part: &[u32], n: usize, t: Trip, key: u64) -> bool
+    requires { ⌜ n ≡ length (now part) / entryWords ⌝ }
+    requires { ⌜ key ≡ keyBy (keyPlace OIn) t ⌝ }
     requires { ⌜ InOrder (order OIn) noTrip (rows (now part)) (length (rows (now part))) ⌝ }
     ensures { λ r. ⌜ r ≡ some (sameTrip t) (rows (now (part .entry))) ⌝ }
 {
-    let k = find_place(part, Subdivision::OIn, t);
-    if k < part.len() / ENTRY_WORDS {
-        return t.same(trip_at(part, k));
+    if n == 0 {
+        return false;
     }
-    false
+    let mut low: usize = 0;
+    let mut width = n;
+    while 1 < width {
+        let half = width / 2;
+        let there = key_at(part, START_AT, low + half);
+        low = narrowed(there, key, low + half, low);
+        width -= half;
+    }
+    t.same(trip_at(part, low))
 }
 
 // Whether the trip stands in slot k, which is in the order of originals.
-fn slot_has(dir: &[u32], originals: &[u32], k: usize, t: Trip) -> bool
+fn slot_has(dir: &[u32], originals: &[u32], k: usize, t: Trip, key: u64) -> bool
     requires { ⌜ PartThere (now dir) (now originals) k (k + 1) ⌝ }
+    requires { ⌜ key ≡ keyBy (keyPlace OIn) t ⌝ }
     requires { ⌜ InOrder (order OIn) noTrip (slotAt (now dir) (now originals) k) (length (slotAt (now dir) (now originals) k)) ⌝ }
     ensures { λ r. ⌜ r ≡ some (sameTrip t) (slotAt (now (dir .entry)) (now (originals .entry)) k) ⌝ }
 {
-    has_trip(part_there(dir, originals, k, k + 1), t)
+    let entries = dir[k + 1] - dir[k];
+    has_trip(
+        part_there(dir, originals, k, k + 1),
+        entries as usize,
+        t,
+        key,
+    )
 }
 
 // Whether the original of a trip stands in its slot.
-fn is_known(ruler: Ruler, dir: &[u32], originals: &[u32], t: Trip) -> bool
+fn is_known(ruler: Ruler, dir: &[u32], originals: &[u32], t: Trip, key: u64) -> bool
     requires { ⌜ inBounds (ruler .numbers) ≡ true ⌝ }
     requires { ⌜ length (now dir) ≡ halfLength (scale ruler .m) ⌝ }
     requires { ⌜ (halfOk (now dir) (now originals) ≡ true) × (slotsOk (scale ruler) Originals (now dir) (now originals) ≡ true) ⌝ }
+    requires { ⌜ (fits (scale ruler) t ≡ true) × (key ≡ keyBy (keyPlace OIn) t) ⌝ }
     ensures { λ r. ⌜ r ≡ isKnown (scale ruler) (now (dir .entry)) (now (originals .entry)) t ⌝ }
 {
-    if !fits(ruler, t) {
-        return false;
-    }
-    slot_has(dir, originals, home(ruler, t), t)
+    slot_has(dir, originals, home(ruler, t) as usize, t, key)
 }
 
-// Whether the original of each trip of a part stands in its slot.
+// Whether the original of each trip of a part stands in its slot. The trips are known to fit.
 pub fn all_known(ruler: Ruler, dir: &[u32], originals: &[u32], part: &[u32]) -> bool
     requires { ⌜ inBounds (ruler .numbers) ≡ true ⌝ }
     requires { ⌜ length (now dir) ≡ halfLength (scale ruler .m) ⌝ }
     requires { ⌜ (halfOk (now dir) (now originals) ≡ true) × (slotsOk (scale ruler) Originals (now dir) (now originals) ≡ true) ⌝ }
+    requires { ⌜ each (fits (scale ruler)) (rows (now part)) ≡ true ⌝ }
     ensures { λ r. ⌜ r ≡ each (isKnown (scale ruler) (now (dir .entry)) (now (originals .entry))) (rows (now (part .entry))) ⌝ }
 {
     let n = part.len() / ENTRY_WORDS;
     let mut k: usize = 0;
     while k < n {
-        if !is_known(ruler, dir, originals, trip_at(part, k)) {
+        let t = trip_at(part, k);
+        let key = key_at(part, START_AT, k);
+        if !is_known(ruler, dir, originals, t, key) {
             return false;
         }
         k += 1;

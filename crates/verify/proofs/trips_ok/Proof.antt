@@ -1,6 +1,7 @@
 -- The three tests of `tripsOk`, each by its function, on the words of the entries.
+use Rattle.layout.specs.declared.Half.the-variants.{Originals, Replicas}
 use Rattle.verify.specs.Local.{tripsOk}
-use Rattle.verify.proofs.TestsPassed.{of-halves, of-slots, some-words, half-room, totals-fit, all-rows, few-rows}
+use Rattle.verify.proofs.TestsPassed.{of-halves, of-slots, some-words, half-room, totals-fit, all-rows, few-rows, all-fit}
 use native.Mathlib.Omega.{arith}
 use Rattle.verify.proofs.trips_ok.Statement.{statement}
 use Rattle.verify.proofs.trips_ok.Tie as tie
@@ -69,7 +70,9 @@ all-known-requires c κs =
     let g = start-before-ids-differ (c .before) in
     let h = of-halves (g .args .o .now) (g .args .originals .now) (g .args .r .now) (g .args .replicas .now) (g .pre .1 .1 .0) in
     let s = of-slots _ (g .args .o .now) (g .args .originals .now) (g .args .r .now) (g .args .replicas .now) (g .pre .1 .1 .1) in
-    (g .pre .0, (g .pre .1 .0 .0, (h .0, s .1)))
+    let copied = c .before .before .before .before .before .words-of2 .ensures in
+    let fit = all-fit (g .args .r .now) (g .args .replicas .now) _ copied _ Replicas (g .pre .1 .0 .1) (h .1) (s .2) in
+    (g .pre .0, (g .pre .1 .0 .0, ((h .0, s .1), fit)))
 
 sub-counts-to : tie.Need-sub-counts-to
 sub-counts-to c = omega arith
@@ -89,7 +92,8 @@ counts-to-requires c κs =
     let h = of-halves (g .args .o .now) (g .args .originals .now) (g .args .r .now) (g .args .replicas .now) (g .pre .1 .1 .0) in
     let s = of-slots _ (g .args .o .now) (g .args .originals .now) (g .args .r .now) (g .args .replicas .now) (g .pre .1 .1 .1) in
     let used = words-of-before-ids-differ (c .before .before .before) .words-of .ensures in
-    (g .pre .0, few-rows (g .args .o .now) (g .args .originals .now) _ used (h .0) (s .0))
+    let fit = all-fit (g .args .o .now) (g .args .originals .now) _ used _ Originals (g .pre .1 .0 .0) (h .0) (s .1) in
+    (g .pre .0, (few-rows (g .args .o .now) (g .args .originals .now) _ used (h .0) (s .0), fit))
 
 returns : tie.Need-returns
 unfolding tripsOk

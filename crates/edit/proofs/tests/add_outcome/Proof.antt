@@ -18,7 +18,7 @@ use Rattle.layout.proofs.Checked.{checked}
 use Rattle.layout.proofs.Tables.{RowOk}
 use Rattle.edit.proofs.IndexRead.{Shown, shown}
 use Rattle.edit.proofs.Chained.{add-full, add-row, add-room, row-taken}
-use Rattle.edit.proofs.HalfLent.{cells-in}
+use Rattle.layout.proofs.RulerCells.{last-cell}
 use native.Mathlib.Omega.{arith}
 use borrow.Author.Needs.{needs}
 use Rattle.edit.proofs.tests.add_outcome.Statement.{statement}
@@ -129,8 +129,7 @@ lacks-room-requires : tie.Need-lacks-room-requires
 unfolding refuse
 lacks-room-requires c κs =
     let g = start-before-is-accepted (c .before) in
-    let cells = cells-in (g .args .ruler) (g .pre .0) (g .args .t) (row-ok (c) .fits) in
-    (g .pre .0, (cells .0, cells .1, omega (arith, in-index g, counted (c .before .before .before .before .before) .0)))
+    (g .pre .0, (row-ok c .fits, omega (arith, in-index g, counted (c .before .before .before .before .before) .0)))
 
 refused-requires-2 : tie.Need-refused-requires-2
 refused-requires-2 c κs = search needs
@@ -140,17 +139,16 @@ unfolding refuse
 returns-3 c =
     let g = start-before-is-accepted (c .before .before .before .before) in
     let row = row-ok (c .before .before .before) in
-    let cells = cells-in (g .args .ruler) (g .pre .0) (g .args .t) (row .fits) in
+    let last = last-cell (g .args .ruler) (g .pre .0) (g .args .t) (row .fits) in
     c .refused2 .ensures ∙ sym (add-room (scale (g .args .ruler)) (words g) (g .args .t) (g .pre .1) (in-index g)
-    (few (else1-before-lacks-room (c .before .before))) row (cells .1) (counted (else1-before-lacks-room (c .before .before) .before)) true _
+    (few (else1-before-lacks-room (c .before .before))) row last (counted (else1-before-lacks-room (c .before .before) .before)) true _
     (sym (c .before .before .lacks-room .ensures) ∙ c .before .if3 .taken) refl)
 
 lacks-room-requires-2 : tie.Need-lacks-room-requires-2
 unfolding refuse
 lacks-room-requires-2 c κs =
     let g = start-before-is-accepted (c .before .before .before) in
-    let cells = cells-in (g .args .ruler) (g .pre .0) (g .args .t) (row-ok (c .before .before) .fits) in
-    (g .pre .0, (cells .0, cells .1, omega (arith, in-index g, counted (else1-before-lacks-room (c .before) .before) .1)))
+    (g .pre .0, (row-ok (c .before .before) .fits, omega (arith, in-index g, counted (else1-before-lacks-room (c .before) .before) .1)))
 
 refused-requires-3 : tie.Need-refused-requires-3
 refused-requires-3 c κs = search needs
@@ -160,9 +158,9 @@ unfolding refuse
 returns-4 c =
     let g = start-before-is-accepted (c .before .before .before .before .before .before) in
     let row = row-ok (c .before .before .before .before .before) in
-    let cells = cells-in (g .args .ruler) (g .pre .0) (g .args .t) (row .fits) in
+    let last = last-cell (g .args .ruler) (g .pre .0) (g .args .t) (row .fits) in
     c .refused3 .ensures ∙ sym (add-room (scale (g .args .ruler)) (words g) (g .args .t) (g .pre .1) (in-index g)
-    (few (else1-before-lacks-room (c .before .before .before .before))) row (cells .1)
+    (few (else1-before-lacks-room (c .before .before .before .before))) row last
     (counted (else1-before-lacks-room (c .before .before .before .before) .before)) false true
     (sym (c .before .before .before .before .lacks-room .ensures) ∙ c .before .before .before .if3 .left)
     (sym (c .before .before .lacks-room2 .ensures) ∙ c .before .if4 .taken))
@@ -172,9 +170,9 @@ unfolding refuse
 returns-5 c =
     let g = start-before-is-accepted (c .before .before .before .before .before) in
     let row = row-ok (c .before .before .before .before) in
-    let cells = cells-in (g .args .ruler) (g .pre .0) (g .args .t) (row .fits) in
+    let last = last-cell (g .args .ruler) (g .pre .0) (g .args .t) (row .fits) in
     sym (add-room (scale (g .args .ruler)) (words g) (g .args .t) (g .pre .1) (in-index g)
-    (few (else1-before-lacks-room (c .before .before .before))) row (cells .1)
+    (few (else1-before-lacks-room (c .before .before .before))) row last
     (counted (else1-before-lacks-room (c .before .before .before) .before)) false false
     (sym (c .before .before .before .lacks-room .ensures) ∙ c .before .before .if3 .left) (sym (c .before .lacks-room2 .ensures) ∙ c .if4 .left))
 

@@ -6,9 +6,11 @@ use lib.ListN.{drop}
 use borrow.Author.Tests.{not-true, not-false}
 use Rattle.ruler.specs.Ruler.{scale}
 use Rattle.layout.specs.Words.{tripAt, rows}
+use Rattle.layout.specs.Refusals.{fits}
+use Rattle.store.specs.Ordered.{keyPlace}
 use Rattle.verify.specs.Passing.{each}
 use Rattle.verify.specs.Local.{isKnown}
-use Rattle.verify.proofs.LoopTurns.{each-more, each-stop, each-end}
+use Rattle.verify.proofs.LoopTurns.{each-row, each-more, each-stop, each-end}
 use native.Mathlib.Omega.{arith}
 use Rattle.verify.proofs.origin.all_known.Statement.{statement}
 use Rattle.verify.proofs.origin.all_known.Tie as tie
@@ -31,16 +33,25 @@ loop-holds c = refl
 trip-at-requires : tie.Need-trip-at-requires Inv-loop μ-loop
 trip-at-requires c κs = omega arith
 
+key-at-requires : tie.Need-key-at-requires Inv-loop μ-loop
+key-at-requires c κs = (omega arith, omega arith)
+
 is-known-requires : tie.Need-is-known-requires Inv-loop μ-loop
-is-known-requires c κs = start-before-trip-at c .pre
+unfolding keyPlace
+is-known-requires c κs =
+    let g = start-before-trip-at (c .before) in
+    let k = c .before .before .before .loop .k in
+    let read = c .before .trip-at .ensures in
+    let fit = each-row (g .args .part .now) (fits (scale (g .args .ruler))) (g .pre .1 .1 .1) k (omega arith) in
+    (g .pre .0, (g .pre .1 .0, (g .pre .1 .1 .0, (rw read fit, rw read (c .key-at .ensures)))))
 
 returns : tie.Need-returns Inv-loop μ-loop
 returns c =
-    let g = start-before-trip-at (c .before .before) .args in
+    let g = start-before-trip-at (c .before .before .before) .args in
     let p = isKnown (scale (g .ruler)) (g .dir .now) (g .originals .now) in
-    let k = c .before .before .before .before .loop in
+    let k = c .before .before .before .before .before .loop in
     let fails : p (tripAt (g .part .now) (k .k)) ≡ false =
-    rw (← c .before .before .trip-at .ensures, ← c .before .is-known .ensures) (not-true _ (c .if1 .taken))
+    rw (← c .before .before .before .trip-at .ensures, ← c .before .is-known .ensures) (not-true _ (c .if1 .taken))
     in
     sym (each-stop (g .part .now) p (k .k) (omega arith) fails) ∙ k .inv
 
@@ -52,11 +63,11 @@ loop-less c = omega arith
 
 loop-again : tie.Need-loop-again Inv-loop μ-loop
 loop-again c =
-    let g = start-before-trip-at (c .before .before) .args in
+    let g = start-before-trip-at (c .before .before .before) .args in
     let p = isKnown (scale (g .ruler)) (g .dir .now) (g .originals .now) in
-    let k = c .before .before .before .before .loop in
+    let k = c .before .before .before .before .before .loop in
     let passes : p (tripAt (g .part .now) (k .k)) ≡ true =
-    rw (← c .before .before .trip-at .ensures, ← c .before .is-known .ensures) (not-false _ (c .if1 .left))
+    rw (← c .before .before .before .trip-at .ensures, ← c .before .is-known .ensures) (not-false _ (c .if1 .left))
     in
     each-more (g .part .now) p (k .k) (omega arith) passes ∙ k .inv
 
@@ -75,6 +86,7 @@ all-known-spec =
     μ-loop
     loop-holds
     trip-at-requires
+    key-at-requires
     is-known-requires
     returns
     add-k

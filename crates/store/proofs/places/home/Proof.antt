@@ -3,13 +3,13 @@ use mathlib.Core.Path.{refl}
 use Prim.Native.Nat.{_≤_}
 use Rattle.ruler.specs.Ruler.{scale}
 use Rattle.layout.specs.Stored.{isIn}
-use Rattle.layout.proofs.RulerCells.{deep-ruler, first-cell}
-use Rattle.verify.specs.Local.{home, homeAt}
-use Rattle.verify.proofs.Home.{trip-fits, level-deep, place-there}
+use Rattle.layout.proofs.RulerCells.{fair-ruler, deep-ruler, last-cell}
+use Rattle.store.specs.Homes.{home, homeAt}
+use Rattle.store.proofs.Homes.{level-deep, place-there}
 use native.Mathlib.Omega.{arith}
 use borrow.Author.Needs.{needs}
-use Rattle.verify.proofs.origin.home.Statement.{statement}
-use Rattle.verify.proofs.origin.home.Tie as tie
+use Rattle.store.proofs.places.home.Statement.{statement}
+use Rattle.store.proofs.places.home.Tie as tie
 
 bottom-cell-requires : tie.Need-bottom-cell-requires
 bottom-cell-requires c κs = search needs
@@ -21,8 +21,10 @@ home-level-requires : tie.Need-home-level-requires
 home-level-requires c κs =
     let g = c .before .before in
     let r = g .args .ruler in
-    let first = first-cell r (g .pre .0) (g .args .t) (trip-fits r (g .args .t) (g .pre .0) (g .pre .1)) in
-    rw (c .bottom-cell2 .ensures, c .before .bottom-cell .ensures) (deep-ruler r (g .pre .0), refl, first)
+    let t = g .args .t in
+    let ordered = fair-ruler r (g .pre .0) .never-falls (t .start) (t .end) (g .pre .1 .ordered) in
+    rw (c .bottom-cell2 .ensures, c .before .bottom-cell .ensures)
+    (deep-ruler r (g .pre .0), refl, ordered, last-cell r (g .pre .0) t (g .pre .1))
 
 at-level-requires : tie.Need-at-level-requires
 at-level-requires c κs =
@@ -52,9 +54,6 @@ slot-number-requires c κs =
     let there = place-there r (g .args .t) (g .pre .0) (g .pre .1) _ h in
     rw (c .before .before .at-level .ensures, k .before .before .bottom-cell .ensures) (omega (arith, deep-ruler r (g .pre .0)), omega (arith, there))
 
-cast-result : tie.Need-cast-result
-cast-result c = search needs
-
 returns : tie.Need-returns
 unfolding home homeAt isIn
 returns c =
@@ -76,5 +75,4 @@ home-spec =
     at-level-requires-2
     same-requires
     slot-number-requires
-    cast-result
     returns)
