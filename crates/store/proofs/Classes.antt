@@ -11,20 +11,18 @@ use native.Mathlib.Numerals.{add-one}
 use native.Mathlib.Omega.{arith}
 use native.Mathlib.Decide.{decLt}
 use lib.Dec.{T, eqb, eqb→eq, leb, ltb, ltb→lt}
-use lib.ListN.{length, getD, set, take, drop, drop-of-length-le}
-use lib.Seq.{take-suc-set, take-set-le, take-at, length-take-le}
-use borrow.Rule.Slice.PartMut.{midOf, putMid}
+use lib.ListN.{length, getD, set, take, drop}
+use lib.Seq.{take-suc-set, take-set-le, take-all}
 use borrow.Author.Tests.{eq-eqb, ne-eqb, leb-true, leb-false}
 use Rattle.lists.specs.Lists.{keep, consIf, sort, ascending}
 use Rattle.lists.proofs.Tests.{of-and, to-and, of-three, to-three, of-or, or-left, or-right, to-T, of-T, of-no-T, of-not, to-not, agree, eq→eqb}
-use Rattle.lists.proofs.Members.{none, more, to-keep, pairs-keep, pairs-append, pairs-parts, of-sort, to-sort, length-sort}
+use Rattle.lists.proofs.Members.{none, more, to-keep, pairs-keep, pairs-append, pairs-parts, of-sort, to-sort}
 use Rattle.lists.proofs.Halving.{at-mem, mem-at, in-order}
 use Rattle.lists.proofs.Sorting.{Differ}
-use Rattle.lists.proofs.Lent.{head-lent, head-back}
 use Rattle.trip.specs.declared.Trip.{Trip}
 use Rattle.layout.specs.Words.{entryWords, rows}
 use Rattle.store.specs.Entries.{wordEnd, ids}
-use Rattle.store.specs.Ids.{climbs, idsDiffer, differ, mixer, classOf, inClass, ofClass, among, apart}
+use Rattle.store.specs.Ids.{climbs, idsDiffer, differ, mixer, spread, classOf, inClass, ofClass, among, apart}
 use Rattle.store.proofs.Differing.{climbs-sorted, every-id, steps-left, steps-over, of-differ, to-differ}
 
 -- ---- a loop over the rows of a part
@@ -60,28 +58,15 @@ module _ (all room rest rest′ : List ℕ) (found x : ℕ) (fits : found < leng
   pub gather-miss : rest ≡ rest′ → all ≡ take found (set room found x) ++ rest′
   gather-miss e = there ∙ rw (e, take-set-le found room found x (omega arith))
 
--- the first n words put in order where they stand
-module _ (room sorted : List ℕ) (n : ℕ) (fits : n ≤ length room) (put : sorted ≡ ascending (midOf 0 (n - 0) room)) where
-  front : sorted ≡ ascending (take n room)
-  front = put ∙ ap ascending (head-lent room n)
-
-  pub ordered-back : putMid 0 (n - 0) room sorted ≡ ascending (take n room) ++ drop n room
-  ordered-back = head-back room n sorted ∙ ap (λ (l : List ℕ). l ++ drop n room) front
-
-  pub ordered-climbs : climbs (midOf 0 (n - 0) (putMid 0 (n - 0) room sorted)) ≡ differ (take n room)
-  ordered-climbs =
-      let long : length (ascending (take n room)) ≡ n = length-sort leb (take n room) ∙ length-take-le n room fits in
-      ap climbs (head-lent (putMid 0 (n - 0) room sorted) n ∙ ap (take n) ordered-back ∙ take-at (ascending (take n room)) (drop n room) n long)
-
 -- ---- members, as tests
 
-to-among : (x : ℕ) (l : List ℕ) → Mem x l → T (among x l)
+pub to-among : (x : ℕ) (l : List ℕ) → Mem x l → T (among x l)
 unfolding among
 to-among x [] m = not-nil m
 to-among x (y ∷ l) (here e) = or-left (eqb y x) (among x l) (eq→eqb y x (sym e))
 to-among x (y ∷ l) (there m) = or-right (eqb y x) (among x l) (to-among x l m)
 
-of-among : (x : ℕ) (l : List ℕ) → T (among x l) → Mem x l
+pub of-among : (x : ℕ) (l : List ℕ) → T (among x l) → Mem x l
 unfolding among
 of-among x [] t = absurd t
 of-among x (y ∷ l) t = elim (of-or (eqb y x) (among x l) t) [
@@ -209,9 +194,8 @@ module _ (before a left : List ℕ) (there : before ≡ a ++ left) where
   pub front-stop : differ a ≡ false → differ before ≡ false
   front-stop e = rw (parts, e)
 
-  pub front-all : differ a ≡ true → left ≡ [] → differ before ≡ true
-  unfolding apart sort climbs
-  front-all e f = rw (parts, e, f)
+  pub front-all : left ≡ [] → differ before ≡ differ a
+  front-all e = ap differ (there ∙ ap (λ (l : List ℕ). a ++ l) e ∙ append-nil a)
 
   pub front-again : (room : List ℕ) → room ≡ ascending a → apart room left ≡ false → differ before ≡ false
   front-again room r e =
@@ -228,17 +212,14 @@ pub none-differ : (l : List ℕ) → l ≡ [] → differ l ≡ true
 unfolding sort climbs
 none-differ l e = rw e
 
--- a full room is all in order
-pub full-room : (room₀ room : List ℕ) (found : ℕ) → room ≡ ascending (take found room₀) ++ drop found room₀ → found ≡ length room₀
-    → room ≡ ascending (take found room₀)
-full-room room₀ room found e f =
-    let none : drop found room₀ ≡ [] = drop-of-length-le room₀ {i = found} (omega arith) in
-    e ∙ rw none (append-nil (ascending (take found room₀)))
+-- a full room is all of what was gathered
+pub full-room : (all room left : List ℕ) (found : ℕ) → all ≡ take found room ++ left → found ≡ length room → all ≡ room ++ left
+full-room all room left found e f = e ∙ ap (λ (l : List ℕ). l ++ left) (take-all found room (omega arith))
 
 -- ---- all classes
 
 class-below : (classes id : ℕ) → 0 < classes → classOf classes id < classes
-unfolding classOf
+unfolding classOf spread
 class-below classes id h =
     let x = id * mixer % wordEnd in
     let most : x < wordEnd = omega arith in

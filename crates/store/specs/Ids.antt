@@ -33,7 +33,7 @@ idsDiffer ts = differ (ids ts)
 
 -- ---- class by class
 
--- how many ids are put in order at once
+-- how many ids are told apart at once
 abbrev pub roomLength : ℕ
 roomLength = 512
 
@@ -41,9 +41,13 @@ roomLength = 512
 abbrev pub mixer : ℕ
 mixer = 2654435769
 
--- The class of an id, one of so many: where among all words the low word of a product stands, which spreads ids that come in even steps.
+-- The low word of a product, which spreads ids that come in even steps over all words, times so many classes.
+unfoldable pub spread : (classes id : ℕ) → ℕ
+spread classes id = id * mixer % wordEnd * classes
+
+-- The class of an id, one of so many: where among all words it was spread to.
 unfoldable pub classOf : (classes id : ℕ) → ℕ
-classOf classes id = id * mixer % wordEnd * classes / wordEnd
+classOf classes id = spread classes id / wordEnd
 
 abbrev pub inClass : (classes class id : ℕ) → Bool
 inClass classes class id = eqb (classOf classes id) class

@@ -1,20 +1,21 @@
-// No id twice, in 2 KiB: the ids are gathered class by class into a room for 512, put in order there and looked through.
+// No id twice, in 2.5 KiB: the ids are gathered class by class into a room for 512 and told apart there by marks. A class that has more is put
+// in order a room full at a time, so that ids chosen for it cost little more.
 use crate::entry::WORD_END;
 use layout::ENTRY_WORDS;
 use lists::sort_ids;
 ghost use mathlib.Core.Path.{_≡_};
 ghost use mathlib.Core.Bool.{true, cond};
-ghost use mathlib.Core.List.{_++_};
-ghost use Prim.Native.Nat.{_/_, _<_, _≤_};
+ghost use Prim.Native.Nat.{_*_, _/_, _<_, _≤_};
 ghost use lib.Dec.{leb};
-ghost use lib.ListN.{length, take, drop};
+ghost use lib.ListN.{length};
 ghost use Rattle.ruler.specs.Ruler.{mostTrips};
 ghost use Rattle.lists.specs.Lists.{ascending};
 ghost use Rattle.layout.specs.Words.{entryWords, rows};
 ghost use Rattle.store.specs.Entries.{wordEnd};
-ghost use Rattle.store.specs.Ids.{climbs, everyStep, idsDiffer, among, apart, differ, roomLength, classOf, ofClass, Gathers};
+ghost use Rattle.store.specs.Ids.{climbs, everyStep, idsDiffer, among, apart, differ, roomLength, spread, classOf, ofClass, Gathers};
+ghost use Rattle.store.specs.Marks.{wordBits, markWords, markOf, marked, withMark};
 
-// How many ids are put in order at once.
+// How many ids are told apart at once.
 const ROOM: usize = 512;
 
 // How many ids a class has where they fall evenly: so far below the room that chance does not fill it.
@@ -22,6 +23,15 @@ const EVEN: usize = 416;
 
 // What an id is multiplied by: the product's low word is spread over all words, also of ids in even steps.
 const MIX: u64 = 2654435769;
+
+// How many bits a word has.
+const WORD_BITS: usize = 32;
+
+// How many words of marks there are, a mark for each bit.
+const MARK_WORDS: usize = 128;
+
+// How many words have the same mark: all words over all marks.
+const MARK_SHARE: u64 = 1048576;
 
 // Whether the words that stand a step apart, from the first on, each are above the one before.
 fn climb(words: &[u32], step: usize) -> bool
@@ -45,12 +55,20 @@ fn climb(words: &[u32], step: usize) -> bool
     true
 }
 
+// An id spread over all words, times so many classes: the high word is its class, and the low word stands for it in its class.
+fn spread_of(id: u32, classes: u64) -> u64
+    requires { ⌜ classes ≤ wordEnd ⌝ }
+    ensures { λ r. ⌜ r ≡ spread classes id ⌝ }
+{
+    id as u64 * MIX % WORD_END * classes
+}
+
 // The class of an id, one of so many.
 fn class_of(id: u32, classes: u64) -> u64
     requires { ⌜ classes ≤ wordEnd ⌝ }
     ensures { λ r. ⌜ r ≡ classOf classes id ⌝ }
 {
-    id as u64 * MIX % WORD_END * classes / WORD_END
+    spread_of(id, classes) / WORD_END
 }
 
 // How many ids of a class were gathered, and the row after the last that was looked at.
@@ -82,13 +100,66 @@ fn gather(part: &[u32], classes: u64, class: u64, from: usize, room: &mut [u32])
     Gathered { found, next: k }
 }
 
-// Puts the first words of a room in order, and says whether they differ.
-fn put_in_order(room: &mut [u32], n: usize) -> bool
-    requires { ⌜ n ≤ length (now room) ⌝ }
-    ensures { λ r. ⌜ (r ≡ differ (take n (now (room .entry)))) × (now (room .exit) ≡ ascending (take n (now (room .entry))) ++ drop n (now (room .entry))) ⌝ }
+// The mark of an id: of those of one class few have the same.
+fn mark_of(id: u32, classes: u64) -> usize
+    requires { ⌜ classes ≤ wordEnd ⌝ }
+    ensures { λ r. ⌜ r ≡ markOf classes id ⌝ }
 {
-    sort_ids(&mut room[0..n]);
-    climb(&room[0..n], 1)
+    (spread_of(id, classes) % WORD_END / MARK_SHARE) as usize
+}
+
+// Sets a mark, and says whether it was set before.
+fn set_mark(marks: &mut [u32; MARK_WORDS], mark: usize) -> bool
+    requires { ⌜ mark < markWords * wordBits ⌝ }
+    ensures { λ r. ⌜ (r ≡ marked (now (marks .entry)) mark) × (now (marks .exit) ≡ withMark (now (marks .entry)) mark) ⌝ }
+{
+    let at = mark / WORD_BITS;
+    let bit = mark % WORD_BITS;
+    let word = marks[at];
+    marks[at] = word | 1 << bit;
+    (word >> bit) % 2 == 1
+}
+
+// Whether an id is one of the words. Each is looked at, so that no jump depends on them.
+fn has(words: &[u32], id: u32) -> bool
+    ensures { λ r. ⌜ r ≡ among id (now (words .entry)) ⌝ }
+{
+    let mut found = false;
+    let mut i: usize = 0;
+    while i < words.len() {
+        found = found | (words[i] == id);
+        i += 1;
+    }
+    found
+}
+
+// Whether words differ. Each sets its mark: one whose mark was set is looked for among those before it, any other cannot stand there.
+fn words_differ(words: &[u32], classes: u64) -> bool
+    requires { ⌜ classes ≤ wordEnd ⌝ }
+    ensures { λ r. ⌜ r ≡ differ (now (words .entry)) ⌝ }
+{
+    let mut marks: [u32; MARK_WORDS] = [0; MARK_WORDS];
+    let mut i: usize = 0;
+    while i < words.len() {
+        let id = words[i];
+        let set_before = set_mark(&mut marks, mark_of(id, classes));
+        let before = i;
+        i += 1;
+        if set_before {
+            if has(&words[0..before], id) {
+                return false;
+            }
+        }
+    }
+    true
+}
+
+// Puts a room in order, and says whether its words differ.
+fn put_in_order(room: &mut [u32]) -> bool
+    ensures { λ r. ⌜ (r ≡ differ (now (room .entry))) × (now (room .exit) ≡ ascending (now (room .entry))) ⌝ }
+{
+    sort_ids(room);
+    climb(room, 1)
 }
 
 // The half to pass over, if what stands there is not above the id; else none of it.
@@ -135,7 +206,8 @@ fn none_again(part: &[u32], classes: u64, class: u64, from: usize, room: &[u32])
     true
 }
 
-// Whether the ids of a class differ: a room full at a time, and those that come later are looked up in it.
+// Whether the ids of a class differ. A room that holds all that are left, as at once in most classes, is told apart by marks; a full one is put
+// in order, and those that come later are looked up in it.
 fn class_differs(part: &[u32], classes: u64, class: u64, room: &mut [u32]) -> bool
     requires { ⌜ (classes ≤ wordEnd) × (length (now room) ≡ roomLength) ⌝ }
     ensures { λ r. ⌜ r ≡ differ (ofClass classes class (rows (now (part .entry))) 0) ⌝ }
@@ -144,12 +216,13 @@ fn class_differs(part: &[u32], classes: u64, class: u64, room: &mut [u32]) -> bo
     let mut k: usize = 0;
     while k < n {
         let g = gather(part, classes, class, k, room);
-        if !put_in_order(room, g.found) {
-            return false;
-        }
+        let found = g.found;
         k = g.next;
         if n <= k {
-            return true;
+            return words_differ(&room[0..found], classes);
+        }
+        if !put_in_order(room) {
+            return false;
         }
         if !none_again(part, classes, class, k, room) {
             return false;

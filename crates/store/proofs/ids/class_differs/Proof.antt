@@ -1,10 +1,12 @@
 -- The ids of the class that are left differ exactly if all of it do.
 use mathlib.Core.Path.{_≡_, refl, sym, ap, _∙_}
-use Prim.Native.Nat.{_-_}
+use mathlib.Core.List.{List, _++_}
+use Prim.Native.Nat.{ℕ, _-_}
 use native.Mathlib.Omega.{arith}
 use lib.ListN.{length}
 use borrow.Author.Needs.{needs}
 use borrow.Author.Tests.{not-true, not-false}
+use Rattle.lists.proofs.Lent.{head-lent}
 use Rattle.layout.specs.Words.{rows}
 use Rattle.layout.proofs.Rows.{length-rows}
 use Rattle.store.specs.Ids.{climbs, differ, ofClass}
@@ -20,14 +22,27 @@ abbrev μ-loop : tie.MeasureT-loop
 μ-loop part classes class room₀ n k₀ room k = n - k
 
 -- the places that facts are taken from
-abbrev gathered : tie.After-put-in-order Inv-loop μ-loop → tie.After-gather Inv-loop μ-loop
-gathered c = c .before .before .before .before
+abbrev turn : tie.After-gather Inv-loop μ-loop → tie.In-loop Inv-loop μ-loop
+turn c = c .before .before
 
-abbrev start : tie.After-put-in-order Inv-loop μ-loop → tie.Start Inv-loop μ-loop
-start c = gathered c .before .before .before .before .before .before
+abbrev start : tie.After-gather Inv-loop μ-loop → tie.Start Inv-loop μ-loop
+start c = turn c .before .before .before .before
+
+abbrev gathered : tie.After-put-in-order Inv-loop μ-loop → tie.After-gather Inv-loop μ-loop
+gathered c = c .before .before .before .before .before
 
 abbrev looked : tie.After-none-again Inv-loop μ-loop → tie.After-put-in-order Inv-loop μ-loop
-looked c = c .before .before .before .before .before .before
+looked c = c .before .before .before .before .before
+
+abbrev left : (c : tie.After-gather Inv-loop μ-loop) (k : ℕ) → List ℕ
+left c k = ofClass (start c .args .classes) (start c .args .class) (rows (start c .args .part .now)) k
+
+-- the room is full where it is put in order
+whole : (c : tie.After-put-in-order Inv-loop μ-loop)
+    → left (gathered c) (turn (gathered c) .before .loop .k) ≡ gathered c .gather .last .1 .1 .1 .1 .0 ++ left (gathered c) (gathered c .gather .result .next)
+whole c =
+    let g = gathered c .gather .ensures in
+    full-room _ _ _ _ (g .there) (g .full (omega (arith, length-rows (start (gathered c) .args .part .now))))
 
 loop-holds : tie.Need-loop-holds Inv-loop μ-loop
 loop-holds c = (refl, refl)
@@ -35,38 +50,45 @@ loop-holds c = (refl, refl)
 gather-requires : tie.Need-gather-requires Inv-loop μ-loop
 gather-requires c κs = (search needs, omega (arith, c .before .before .loop .inv .0))
 
-put-in-order-requires : tie.Need-put-in-order-requires Inv-loop μ-loop
-put-in-order-requires c κs = c .before .before .before .gather .ensures .fits
+sub-words-differ : tie.Need-sub-words-differ Inv-loop μ-loop
+sub-words-differ c = omega arith
+
+part-words-differ-start : tie.Need-part-words-differ-start Inv-loop μ-loop
+part-words-differ-start c = search needs
+
+part-words-differ-end : tie.Need-part-words-differ-end Inv-loop μ-loop
+part-words-differ-end c = c .before .before .before .before .gather .ensures .fits
+
+words-differ-requires : tie.Need-words-differ-requires Inv-loop μ-loop
+words-differ-requires c κs = search needs
 
 same-length : tie.Need-same-length Inv-loop μ-loop
 same-length c = omega arith
 
 returns : tie.Need-returns Inv-loop μ-loop
 returns c =
-    let put = c .before .before .before in
-    let there = gathered put .gather .ensures .there in
-    let loop = gathered put .before .before .before .loop in
-    sym (front-stop _ _ _ there (sym (put .put-in-order .ensures .0) ∙ not-true _ (c .if1 .taken))) ∙ loop .inv .1
+    let at = c .before .before .before .before .before .before in
+    let args = start at .args in
+    let none = class-none (args .classes) (args .class) (args .part .now) (at .gather .result .next) (omega arith) in
+    c .words-differ .ensures ∙ ap differ (head-lent _ (at .gather .result .found)) ∙ sym (front-all _ _ _ (at .gather .ensures .there) none) ∙ turn at .before .loop .inv .1
+
+put-in-order-requires : tie.Need-put-in-order-requires Inv-loop μ-loop
+put-in-order-requires c κs = search needs
 
 same-length-2 : tie.Need-same-length-2 Inv-loop μ-loop
 same-length-2 c = omega arith
 
 returns-2 : tie.Need-returns-2 Inv-loop μ-loop
 returns-2 c =
-    let put = c .before .before .before .before in
-    let there = gathered put .gather .ensures .there in
-    let loop = gathered put .before .before .before in
-    let args = start put .args in
-    let none = class-none (args .classes) (args .class) (args .part .now) (gathered put .gather .result .next) (omega arith) in
-    sym (front-all _ _ _ there (sym (put .put-in-order .ensures .0) ∙ not-false _ (c .before .if1 .left)) none) ∙ loop .loop .inv .1
+    let put = c .before .before .before in
+    sym (front-stop _ _ _ (whole put) (sym (put .put-in-order .ensures .0) ∙ not-true _ (c .if2 .taken))) ∙ turn (gathered put) .before .loop .inv .1
 
 none-again-requires : tie.Need-none-again-requires Inv-loop μ-loop
 none-again-requires c κs =
-    let put = c .before .before .before .before .before in
-    let full = full-room _ _ _ (put .put-in-order .ensures .1) (gathered put .gather .ensures .full (omega (arith, length-rows (start put .args .part .now)))) in (
+    let put = c .before .before .before .before in (
       search needs,
       omega arith,
-      ap climbs full ∙ sym (put .put-in-order .ensures .0) ∙ not-false _ (c .before .before .if1 .left),
+      ap climbs (put .put-in-order .ensures .1) ∙ sym (put .put-in-order .ensures .0) ∙ not-false _ (c .before .if2 .left),
     )
 
 same-length-3 : tie.Need-same-length-3 Inv-loop μ-loop
@@ -75,26 +97,20 @@ same-length-3 c = omega arith
 returns-3 : tie.Need-returns-3 Inv-loop μ-loop
 returns-3 c =
     let put = looked (c .before) in
-    let there = gathered put .gather .ensures .there in
-    let loop = gathered put .before .before .before .loop in
-    let full = full-room _ _ _ (put .put-in-order .ensures .1) (gathered put .gather .ensures .full (omega (arith, length-rows (start put .args .part .now)))) in
     let again = sym (c .before .none-again .ensures) ∙ not-true _ (c .if3 .taken) in
-    sym (front-again _ _ _ there _ full again) ∙ loop .inv .1
+    sym (front-again _ _ _ (whole put) _ (put .put-in-order .ensures .1) again) ∙ turn (gathered put) .before .loop .inv .1
 
 loop-less : tie.Need-loop-less Inv-loop μ-loop
 loop-less c =
-    let put = looked (c .before) in
-    omega (arith, gathered put .gather .ensures .onward (omega (arith, length-rows (start put .args .part .now))))
+    let at = gathered (looked (c .before)) in
+    omega (arith, at .gather .ensures .onward (omega (arith, length-rows (start at .args .part .now))))
 
 loop-again : tie.Need-loop-again Inv-loop μ-loop
 loop-again c =
     let put = looked (c .before) in
-    let there = gathered put .gather .ensures .there in
-    let loop = gathered put .before .before .before .loop in
-    let full = full-room _ _ _ (put .put-in-order .ensures .1) (gathered put .gather .ensures .full (omega (arith, length-rows (start put .args .part .now)))) in
-    let once = sym (put .put-in-order .ensures .0) ∙ not-false _ (c .before .before .before .before .if1 .left) in
+    let once = sym (put .put-in-order .ensures .0) ∙ not-false _ (c .before .before .before .if2 .left) in
     let no-more = sym (c .before .none-again .ensures) ∙ not-false _ (c .if3 .left) in
-    (omega arith, front-more _ _ _ there _ full once no-more ∙ loop .inv .1)
+    (omega arith, front-more _ _ _ (whole put) _ (put .put-in-order .ensures .1) once no-more ∙ turn (gathered put) .before .loop .inv .1)
 
 same-length-4 : tie.Need-same-length-4 Inv-loop μ-loop
 same-length-4 c = omega arith
@@ -113,9 +129,13 @@ class-differs-spec =
     μ-loop
     loop-holds
     gather-requires
-    put-in-order-requires
+    sub-words-differ
+    part-words-differ-start
+    part-words-differ-end
+    words-differ-requires
     same-length
     returns
+    put-in-order-requires
     same-length-2
     returns-2
     none-again-requires

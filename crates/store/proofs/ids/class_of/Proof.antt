@@ -1,26 +1,18 @@
--- A product of two words fits two words.
-use mathlib.Core.Path.{refl}
-use native.Mathlib.Nat.{mul-le-mul}
-use native.Mathlib.Omega.{arith}
-use Prim.Native.Nat.{_-_, _*_, _%_, _≤_}
+-- The high word of the product.
+use mathlib.Core.Path.{ap}
+use Prim.Native.Nat.{ℕ, _/_}
 use borrow.Author.Needs.{needs}
 use Rattle.store.specs.Entries.{wordEnd}
-use Rattle.store.specs.Ids.{mixer, classOf}
+use Rattle.store.specs.Ids.{classOf}
 use Rattle.store.proofs.ids.class_of.Statement.{statement}
 use Rattle.store.proofs.ids.class_of.Tie as tie
 
-mul-result : tie.Need-mul-result
-mul-result c = search needs
-
-mul-result-2 : tie.Need-mul-result-2
-mul-result-2 c =
-    let low : c .args .id * mixer % wordEnd ≤ wordEnd - 1 = omega arith in
-    let few : c .args .classes ≤ wordEnd = search needs in
-    omega (arith, mul-le-mul low few)
+spread-of-requires : tie.Need-spread-of-requires
+spread-of-requires c κs = search needs
 
 returns : tie.Need-returns
 unfolding classOf
-returns c = refl
+returns c = ap (λ (n : ℕ). n / wordEnd) (c .spread-of .ensures)
 
 pub class-of-spec : {M : Type 1} → statement M
-class-of-spec = tie.close (tie.spec mul-result mul-result-2 returns)
+class-of-spec = tie.close (tie.spec spread-of-requires returns)
