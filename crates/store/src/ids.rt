@@ -5,9 +5,10 @@ use layout::ENTRY_WORDS;
 use lists::sort_ids;
 ghost use mathlib.Core.Path.{_≡_};
 ghost use mathlib.Core.Bool.{true, cond};
-ghost use Prim.Native.Nat.{_*_, _/_, _<_, _≤_};
+ghost use mathlib.Core.List.{_++_};
+ghost use Prim.Native.Nat.{_+_, _-_, _*_, _/_, _<_, _≤_};
 ghost use lib.Dec.{leb};
-ghost use lib.ListN.{length};
+ghost use lib.ListN.{length, take};
 ghost use Rattle.ruler.specs.Ruler.{mostTrips};
 ghost use Rattle.lists.specs.Lists.{ascending};
 ghost use Rattle.layout.specs.Words.{entryWords, rows};
@@ -71,14 +72,52 @@ fn class_of(id: u32, classes: u64) -> u64
     spread_of(id, classes) / WORD_END
 }
 
+// Gathers the ids of a class that some rows have in a room, after those it has, and says how many it has then. Each id is written, and the
+// next over it where it is of another class: so no jump depends on the class, and none on the room, which has words for all the rows.
+fn gather_rows(
+    part: &[u32],
+    classes: u64,
+    class: u64,
+    from: usize,
+    to: usize,
+    room: &mut [u32],
+    had: usize,
+) -> usize
+    requires { ⌜ (classes ≤ wordEnd) × (from ≤ to) × (to ≤ length (now part) / entryWords) × (had + (to - from) ≤ length (now room)) ⌝ }
+    ensures { λ r. ⌜ (r ≤ had + (to - from)) × (take had (now (room .entry)) ++ ofClass classes class (rows (now (part .entry))) from ≡ take r (now (room .exit)) ++ ofClass classes class (rows (now (part .entry))) to) ⌝ }
+{
+    let mut found = had;
+    let mut k = from;
+    while k < to {
+        let id = part[ENTRY_WORDS * k];
+        k += 1;
+        room[found] = id;
+        if class_of(id, classes) == class {
+            found += 1;
+        }
+    }
+    found
+}
+
+// The end of a stretch of rows, as many as are left but no more than so many.
+fn stretch_end(from: usize, rows: usize, most: usize) -> usize
+    requires { ⌜ (from < rows) × (0 < most) ⌝ }
+    ensures { λ r. ⌜ (from < r) × (r ≤ rows) × (r - from ≤ most) ⌝ }
+{
+    if rows - from <= most {
+        return rows;
+    }
+    from + most
+}
+
 // How many ids of a class were gathered, and the row after the last that was looked at.
 struct Gathered {
     found: usize,
     next: usize,
 }
 
-// Gathers the ids of a class, from one row on, in the first words of a room, until the rows end or it is full. Each id is written, and the
-// next over it where it is of another class: so no jump depends on the class.
+// Gathers the ids of a class, from one row on, in the first words of a room, until the rows end or it is full: a stretch of rows at a time that
+// cannot overfill it.
 fn gather(part: &[u32], classes: u64, class: u64, from: usize, room: &mut [u32]) -> Gathered
     requires { ⌜ (classes ≤ wordEnd) × (0 < length (now room)) ⌝ }
     ensures { λ r. ⌜ Gathers classes class (rows (now (part .entry))) from (now (room .exit)) (r .found) (r .next) ⌝ }
@@ -90,12 +129,9 @@ fn gather(part: &[u32], classes: u64, class: u64, from: usize, room: &mut [u32])
         if room.len() <= found {
             return Gathered { found, next: k };
         }
-        let id = part[ENTRY_WORDS * k];
-        k += 1;
-        room[found] = id;
-        if class_of(id, classes) == class {
-            found += 1;
-        }
+        let to = stretch_end(k, n, room.len() - found);
+        found = gather_rows(part, classes, class, k, to, room, found);
+        k = to;
     }
     Gathered { found, next: k }
 }

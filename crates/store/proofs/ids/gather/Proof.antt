@@ -1,13 +1,12 @@
 -- What is left of the class from the first row on is what was gathered, and then what is left.
-use mathlib.Core.Path.{_≡_, refl}
+use mathlib.Core.Path.{_≡_, refl, _∙_}
 use mathlib.Core.List.{_++_}
 use Prim.Native.Nat.{_+_, _-_, _≤_}
 use native.Mathlib.Omega.{arith}
-use lib.ListN.{length, take, length-set}
+use lib.ListN.{length, take}
 use Rattle.layout.specs.Words.{rows}
 use Rattle.layout.proofs.Rows.{length-rows}
 use Rattle.store.specs.Ids.{ofClass}
-use Rattle.store.proofs.Classes.{class-hit, class-miss, gather-hit, gather-miss}
 use Rattle.store.proofs.ids.gather.Statement.{statement}
 use Rattle.store.proofs.ids.gather.Tie as tie
 
@@ -35,53 +34,22 @@ returns c =
       onward = λ h. omega (arith, turn .inv .0, turn .inv .2);
     }
 
-mul-id : tie.Need-mul-id Inv-loop μ-loop
-mul-id c = omega arith
+sub-stretch-end : tie.Need-sub-stretch-end Inv-loop μ-loop
+sub-stretch-end c = omega arith
 
-mul-id-2 : tie.Need-mul-id-2 Inv-loop μ-loop
-mul-id-2 c = omega arith
+stretch-end-requires : tie.Need-stretch-end-requires Inv-loop μ-loop
+stretch-end-requires c κs = omega arith
 
-shared-slice-read-id : tie.Need-shared-slice-read-id Inv-loop μ-loop
-shared-slice-read-id c = omega arith
-
-add-k : tie.Need-add-k Inv-loop μ-loop
-add-k c = omega arith
-
-mul-room : tie.Need-mul-room Inv-loop μ-loop
-mul-room c = omega arith
-
-slice-write-room : tie.Need-slice-write-room Inv-loop μ-loop
-slice-write-room c = omega arith
-
-class-of-requires : tie.Need-class-of-requires Inv-loop μ-loop
-class-of-requires c κs = omega arith
-
-add-found : tie.Need-add-found Inv-loop μ-loop
-add-found c = omega arith
+gather-rows-requires : tie.Need-gather-rows-requires Inv-loop μ-loop
+gather-rows-requires c κs = (omega arith, omega arith, omega arith, omega arith)
 
 loop-less : tie.Need-loop-less Inv-loop μ-loop
 loop-less c = omega arith
 
 loop-again : tie.Need-loop-again Inv-loop μ-loop
 loop-again c =
-    let turn = c .before .before .before .before .before in
-    let loop = turn .loop in
-    let args = turn .before .before .before .args in
-    let rest = class-hit (args .classes) (args .class) (args .part .now) (loop .k) (omega arith) (c .before .class-of .ensures) (c .if2 .taken) in
-    let there = gather-hit _ (loop .room) _ _ (loop .found) _ (omega arith) (loop .inv .3) rest in
-    simp length-set (omega arith, omega arith, loop .inv .2, there)
-
-loop-less-2 : tie.Need-loop-less-2 Inv-loop μ-loop
-loop-less-2 c = omega arith
-
-loop-again-2 : tie.Need-loop-again-2 Inv-loop μ-loop
-loop-again-2 c =
-    let turn = c .before .before .before .before .before in
-    let loop = turn .loop in
-    let args = turn .before .before .before .args in
-    let rest = class-miss (args .classes) (args .class) (args .part .now) (loop .k) (omega arith) (c .before .class-of .ensures) (c .if2 .left) in
-    let there = gather-miss _ (loop .room) _ _ (loop .found) _ (omega arith) (loop .inv .3) rest in
-    simp length-set (omega arith, omega arith, loop .inv .2, there)
+    let rows = c .before .before in
+    (omega arith, omega arith, omega arith, rows .before .before .before .before .before .loop .inv .3 ∙ rows .gather-rows .ensures .1)
 
 same-length-2 : tie.Need-same-length-2 Inv-loop μ-loop
 same-length-2 c = omega arith
@@ -101,17 +69,10 @@ gather-spec =
     loop-holds
     same-length
     returns
-    mul-id
-    mul-id-2
-    shared-slice-read-id
-    add-k
-    mul-room
-    slice-write-room
-    class-of-requires
-    add-found
+    sub-stretch-end
+    stretch-end-requires
+    gather-rows-requires
     loop-less
     loop-again
-    loop-less-2
-    loop-again-2
     same-length-2
     returns-2)
