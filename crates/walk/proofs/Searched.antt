@@ -1,10 +1,10 @@
 -- What a search by halving finds in a slot, what is left of it, and that the entries which it cuts off do not match.
 use mathlib.Core.Path.{_≡_, refl, sym, ap, _∙_}
-use mathlib.Core.Bool.{Bool, true, false, true≢false, _&&_, _||_, and-false}
+use mathlib.Core.Bool.{Bool, true, false, cond, true≢false, _&&_, _||_, and-false}
 use mathlib.Core.List.{List, [], _∷_, _++_, append-nil}
 use Prim.Native.Nat.{ℕ, suc, _+_, _-_, _*_, _/_, _%_, _≤_, _<_}
 use native.Mathlib.Omega.{arith}
-use lib.Dec.{ltb, eqb}
+use lib.Dec.{leb, ltb, eqb}
 use lib.ListN.{length, getD, take, drop, length-drop}
 use lib.Seq.{getD-take}
 use borrow.Author.Tests.{lt-ltb, ltb-true, ltb-false, eqb-true, lt-leb, le-leb}
@@ -23,7 +23,7 @@ use Rattle.plan.specs.declared.bounds.Bounds.{Bounds}
 use Rattle.plan.specs.declared.looks.Order.{Order}
 use Rattle.plan.specs.declared.looks.Order.the-variants.{ByStart, ByEnd, Other}
 use Rattle.plan.specs.Bounds.{has, inside}
-use Rattle.walk.specs.Cut.{timeOf, spanOf, earlierThan, timely, cutOf, Rises, Parted}
+use Rattle.walk.specs.Cut.{timeOf, spanOf, earlierThan, timely, timelyOf, few, cutOf, Rises, Parted}
 use Rattle.walk.proofs.LevelSlots.{InTurn}
 
 -- ---- a slot in its order never falls in time
@@ -218,8 +218,15 @@ timely-matches ends bounds part =
     ap (keep (inside bounds)) (rows-words (keep (timely ends bounds) (rows part)))
     ∙ keep-after (inside bounds) (timely ends bounds) (outside ends bounds) (rows part)
 
+order-matches : (o : Order) (bounds : Bounds) (part : List ℕ) → keep (inside bounds) (rows (timelyOf o bounds part)) ≡ keep (inside bounds) (rows part)
+order-matches ByStart bounds part = timely-matches false bounds part
+order-matches ByEnd bounds part = timely-matches true bounds part
+order-matches Other bounds part = refl
+
 pub cut-matches : (o : Order) (bounds : Bounds) (part : List ℕ) → keep (inside bounds) (rows (cutOf o bounds part)) ≡ keep (inside bounds) (rows part)
 unfolding cutOf
-cut-matches ByStart bounds part = timely-matches false bounds part
-cut-matches ByEnd bounds part = timely-matches true bounds part
-cut-matches Other bounds part = refl
+cut-matches o bounds part = go (leb (length part) (entryWords * few))
+  where
+    go : (b : Bool) → keep (inside bounds) (rows (cond b part (timelyOf o bounds part))) ≡ keep (inside bounds) (rows part)
+    go true = refl
+    go false = order-matches o bounds part

@@ -1,10 +1,10 @@
 -- A part in an order of times, cut to the entries whose time can match. "Order in a slot: O_in and O_aft by start then id; R_in by end then id;
 -- R_aft by id."
 use mathlib.Core.Path.{_≡_}
-use mathlib.Core.Bool.{Bool, true, false}
+use mathlib.Core.Bool.{Bool, true, false, cond}
 use mathlib.Core.List.{List}
-use Prim.Native.Nat.{ℕ, _/_, _≤_, _<_}
-use lib.Dec.{T}
+use Prim.Native.Nat.{ℕ, _*_, _/_, _≤_, _<_}
+use lib.Dec.{T, leb}
 use lib.ListN.{length}
 use Rattle.lists.specs.Lists.{keep}
 use Rattle.ruler.specs.declared.Time.{Time}
@@ -33,11 +33,18 @@ earlierThan ends limit t = before (timeOf ends t) limit
 unfoldable pub timely : (ends : Bool) → Bounds → Trip → Bool
 timely ends b t = has (spanOf ends b) (timeOf ends t)
 
--- what is left of a part: the entries that are timely by the time that it is in order of. Another order tells nothing of times.
+-- the entries of a part that are timely by the time that it is in order of. Another order tells nothing of times.
+abbrev pub timelyOf : Order → Bounds → (part : List ℕ) → List ℕ
+timelyOf ByStart b part = words (keep (timely false b) (rows part))
+timelyOf ByEnd b part = words (keep (timely true b) (rows part))
+timelyOf Other b part = part
+
+-- what is left of a part: those, or all where they are so few that testing each is quicker than cutting
+abbrev pub few : ℕ
+few = 16
+
 unfoldable pub cutOf : Order → Bounds → (part : List ℕ) → List ℕ
-cutOf ByStart b part = words (keep (timely false b) (rows part))
-cutOf ByEnd b part = words (keep (timely true b) (rows part))
-cutOf Other b part = part
+cutOf o b part = cond (leb (length part) (entryWords * few)) part (timelyOf o b part)
 
 -- the times of a part's entries never fall; and so where the part is in an order of times
 abbrev pub Rises : (ends : Bool) → (part : List ℕ) → Type 0

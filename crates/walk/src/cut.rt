@@ -64,11 +64,17 @@ fn within<'a>(ends: bool, bounds: Bounds, part: &'a [u32]) -> &'a [u32]
     &part[ENTRY_WORDS * lo..ENTRY_WORDS * hi]
 }
 
-// A part without the entries whose time cannot match. Where it is in no order of times, nothing is cut.
+// So few entries that testing each is quicker than two searches, whose every step may go either way.
+const FEW: usize = 16;
+
+// A part without the entries whose time cannot match. Where it has few, or is in no order of times, nothing is cut.
 pub fn cut<'a>(order: Order, bounds: Bounds, part: &'a [u32]) -> &'a [u32]
     requires { ⌜ Ordered order (now part) ⌝ }
     ensures { λ r. ⌜ now r ≡ cutOf order bounds (now (part .entry)) ⌝ }
 {
+    if part.len() <= ENTRY_WORDS * FEW {
+        return part;
+    }
     match order {
         Order::ByStart => within(false, bounds, part),
         Order::ByEnd => within(true, bounds, part),
