@@ -1,11 +1,13 @@
 -- A turn, a stop and the end of each loop of the check: the test of what is left is the test of the whole.
 use mathlib.Core.Path.{_≡_, refl, _∙_}
-use mathlib.Core.Bool.{Bool, true, false, _&&_, and-false}
+use mathlib.Core.Bool.{Bool, true, false, _&&_, and-true, and-false, and-assoc}
 use mathlib.Core.List.{List, [], _∷_}
 use Prim.Native.Nat.{ℕ, zero, suc, _+_, _/_, _≤_, _<_}
 use native.Mathlib.Numerals.{add-one}
 use native.Mathlib.Decide.{decLt}
 use native.Mathlib.Omega.{arith}
+use lib.Bits.{bitOr, or-add-and, and-le-r}
+use lib.Dec.{eqb}
 use lib.ListN.{length, getD, drop, drop-of-length-le}
 use lib.Seq.{drop-cons}
 use borrow.Author.Tests.{le-leb, lt-leb, eq-eqb, ne-eqb}
@@ -21,21 +23,24 @@ use Rattle.verify.proofs.Passing.{of-each}
 
 -- ---- words
 
+or-zero : (a b : ℕ) → eqb (bitOr a b) 0 ≡ eqb a 0 && eqb b 0
+or-zero zero b = refl
+or-zero (suc a) b =
+    let some : bitOr (suc a) b ≡ 0 → ⊥ = λ z. omega (arith, or-add-and (suc a) b, and-le-r (suc a) b) in
+    rw (ne-eqb (suc a) 0 (λ z. omega arith)) (ne-eqb (bitOr (suc a) b) 0 some)
+
 module _ (xs : List ℕ) (i : ℕ) where
   left : i < length xs → drop i xs ≡ getD xs i 0 ∷ drop (i + 1) xs
   left h = rw (add-one, drop-cons xs i 0)
 
-  pub blank-more : i < length xs → getD xs i 0 ≡ 0 → blank (drop (i + 1) xs) ≡ blank (drop i xs)
+  -- a word is added to those met: no digit of either is set exactly if both are zero
+  pub blank-more : (any : ℕ) → i < length xs → eqb (bitOr any (getD xs i 0)) 0 && blank (drop (i + 1) xs) ≡ eqb any 0 && blank (drop i xs)
   unfolding blank
-  blank-more h e = rw (left h, eq-eqb (getD xs i 0) 0 e)
+  blank-more any h = rw (left h, or-zero any (getD xs i 0)) (and-assoc (eqb any 0) _ _)
 
-  pub blank-stop : i < length xs → (getD xs i 0 ≡ 0 → ⊥) → blank (drop i xs) ≡ false
+  pub blank-end : (any : ℕ) → length xs ≤ i → eqb any 0 && blank (drop i xs) ≡ eqb any 0
   unfolding blank
-  blank-stop h e = rw (left h, ne-eqb (getD xs i 0) 0 e)
-
-  pub blank-end : length xs ≤ i → blank (drop i xs) ≡ true
-  unfolding blank
-  blank-end h = rw (drop-of-length-le xs h)
+  blank-end any h = rw (drop-of-length-le xs h) (and-true (eqb any 0))
 
   pub rising-more : (n : ℕ) → i < length xs → n ≤ getD xs i 0 → rising (getD xs i 0) (drop (i + 1) xs) ≡ rising n (drop i xs)
   unfolding rising

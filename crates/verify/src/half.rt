@@ -40,18 +40,17 @@ fn rises(dir: &[u32]) -> bool
     true
 }
 
-// Whether every word from index at on is zero.
+// Whether every word from index at on is zero. All of them are looked at together: a test of each would be a jump for each.
 fn blank_from(arena: &[u32], at: usize) -> bool
     ensures { λ r. ⌜ r ≡ blank (drop at (now (arena .entry))) ⌝ }
 {
     let mut i = at;
+    let mut any: u32 = 0;
     while i < arena.len() {
-        if arena[i] != 0 {
-            return false;
-        }
+        any = any | arena[i];
         i += 1;
     }
-    true
+    any == 0
 }
 
 // Whether the counts start at 0, never fall and fit the arena, and the words after the last entry are 0.
