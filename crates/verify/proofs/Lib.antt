@@ -3,6 +3,7 @@ pub mod PartitionBounds
 pub mod LoopTurns
 pub mod SlotsCut
 pub mod Passing
+pub mod SlotLevels
 pub mod Known
 pub mod Law
 pub mod TestsPassed

@@ -99,14 +99,14 @@ count-words : (a b : ℕ) → entryWords * a ≡ entryWords * b → a ≡ b
 count-words a b e = omega arith
 
 module _ (dir arena : List ℕ) (n : ℕ) (c : Cut dir arena n) where
-  up-to : (k : ℕ) → k ≤ n → getD dir k 0 ≤ getD dir n 0
-  up-to k h =
-      le-ind (λ (j : ℕ). j ≤ n → getD dir k 0 ≤ getD dir j 0) (λ g. omega arith)
-      (λ j kj ih g. let i = ih (omega arith) in let s : getD dir j 0 ≤ getD dir (suc j) 0 = rw add-one at (c .up j g) in omega arith)
-      n h (omega arith)
+  pub rises-to : (j k : ℕ) → j ≤ k → k ≤ n → getD dir j 0 ≤ getD dir k 0
+  rises-to j k h g =
+      le-ind (λ (i : ℕ). i ≤ n → getD dir j 0 ≤ getD dir i 0) (λ q. omega arith)
+      (λ i ji ih q. let l = ih (omega arith) in let s : getD dir i 0 ≤ getD dir (suc i) 0 = rw add-one at (c .up i q) in omega arith)
+      k h g
 
   pub word-fits : (k : ℕ) → k ≤ n → entryWords * getD dir k 0 ≤ length arena
-  word-fits k h = omega (arith, words-le (up-to k h), c .fits)
+  word-fits k h = omega (arith, words-le (rises-to k n h (omega arith)), c .fits)
 
   slot-whole : (k : ℕ) → k < n → words (slotAt dir arena k) ≡ partWords dir arena k (k + 1)
   unfolding slotAt partWords

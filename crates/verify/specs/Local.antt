@@ -1,7 +1,7 @@
 -- The local conditions on words: tests that lay nothing out anew, and that pass exactly where `isIndex` does (the law `locally-index`).
 use mathlib.Core.Bool.{Bool, _&&_}
 use mathlib.Core.List.{List}
-use Prim.Native.Nat.{ℕ, _+_, _-_, _*_, _/_, _%_}
+use Prim.Native.Nat.{ℕ, _+_, _-_, _*_, _/_, _%_, _^_}
 use lib.Dec.{leb, eqb}
 use lib.ListN.{length, getD, take, drop}
 use Rattle.lists.specs.Lists.{sumOver}
@@ -48,6 +48,13 @@ unfoldable pub slotOk : Scale → Half → (k : ℕ) → List Trip → Bool
 slotOk s h k l =
     let d = subdivisionOf h (eqb (k % 2) 1) in
     inRow (standsAt s d (levelOf (s .m) (k / 2)) (placeOf (s .m) (k / 2))) (order d) l
+
+-- the slots of level L: so many from its first on; and all slots
+abbrev pub firstSlot : (L : ℕ) → ℕ
+firstSlot L = 2 * (2 ^ L - 1)
+
+unfoldable pub levelOk : Scale → Half → (L : ℕ) → (directory arena : List ℕ) → Bool
+levelOk s h L dir arena = below (λ j. slotOk s h (firstSlot L + j) (slotAt dir arena (firstSlot L + j))) (2 * 2 ^ L)
 
 unfoldable pub slotsOk : Scale → Half → (directory arena : List ℕ) → Bool
 slotsOk s h dir arena = below (λ k. slotOk s h k (slotAt dir arena k)) (length dir - 1)

@@ -1,5 +1,4 @@
 // One half of the directory with its arena: its counts, its tail, and the entries of its slots.
-use crate::partition::level_of;
 use crate::partition::stands;
 use layout::ENTRY_WORDS;
 use layout::Half;
@@ -14,13 +13,13 @@ use store::half::words_of;
 use store::part::part_there;
 ghost use mathlib.Core.Path.{_≡_};
 ghost use mathlib.Core.Bool.{true};
-ghost use Prim.Native.Nat.{_+_, _*_, _^_, _<_, _≤_};
+ghost use Prim.Native.Nat.{_+_, _/_, _^_, _<_, _≤_};
 ghost use lib.ListN.{length, getD, drop};
 ghost use Rattle.ruler.specs.Ruler.{inBounds, scale};
-ghost use Rattle.layout.specs.Words.{rows, order, partitions, halfLength};
+ghost use Rattle.layout.specs.Words.{rows, order, partitionNumber, halfLength};
 ghost use Rattle.store.specs.Parts.{PartThere};
 ghost use Rattle.verify.specs.Passing.{inRow, rising, blank};
-ghost use Rattle.verify.specs.Local.{halfOk, slotAt, standsAt, slotOk, slotsOk};
+ghost use Rattle.verify.specs.Local.{halfOk, slotAt, standsAt, slotOk, levelOk, slotsOk};
 
 // Whether no word is below the one before it.
 fn rises(dir: &[u32]) -> bool
@@ -91,26 +90,42 @@ fn in_row(ruler: Ruler, d: Subdivision, partition: Cell, part: &[u32]) -> bool
     true
 }
 
-// Whether the entries of a part may stand in slot k of a half, in their order.
-fn slot_ok(ruler: Ruler, half: Half, k: usize, part: &[u32]) -> bool
+// Whether slot k of a half, one of this partition's, is as it should be. Most slots have no entry.
+fn slot_at(ruler: Ruler, half: Half, partition: Cell, dir: &[u32], arena: &[u32], k: usize) -> bool
     requires { ⌜ inBounds (ruler .numbers) ≡ true ⌝ }
-    requires { ⌜ k < 2 * partitions (scale ruler .m) ⌝ }
-    ensures { λ r. ⌜ r ≡ slotOk (scale ruler) half k (rows (now (part .entry))) ⌝ }
-{
-    let p = (k / 2) as u32;
-    let level = level_of(ruler.bottom(), p);
-    let first = power(level) - 1;
-    let d = subdivision_of(half, k % 2 == 1);
-    in_row(ruler, d, Cell::at(level, p - first), part)
-}
-
-// Whether slot k of a half is as it should be.
-fn slot_at(ruler: Ruler, half: Half, dir: &[u32], arena: &[u32], k: usize) -> bool
-    requires { ⌜ inBounds (ruler .numbers) ≡ true ⌝ }
-    requires { ⌜ (k < 2 * partitions (scale ruler .m)) × PartThere (now dir) (now arena) k (k + 1) ⌝ }
+    requires { ⌜ (partition .0 ≤ scale ruler .m) × (partition .1 < 2 ^ partition .0) × (k / 2 ≡ partitionNumber (partition .0) (partition .1)) ⌝ }
+    requires { ⌜ PartThere (now dir) (now arena) k (k + 1) ⌝ }
     ensures { λ r. ⌜ r ≡ slotOk (scale ruler) half k (slotAt (now (dir .entry)) (now (arena .entry)) k) ⌝ }
 {
-    slot_ok(ruler, half, k, part_there(dir, arena, k, k + 1))
+    if dir[k] == dir[k + 1] {
+        return true;
+    }
+    let d = subdivision_of(half, k % 2 == 1);
+    in_row(ruler, d, partition, part_there(dir, arena, k, k + 1))
+}
+
+// Whether every slot of a level of a half is. A level whose outer words are equal has no entry.
+fn level_ok(ruler: Ruler, half: Half, level: u32, dir: &[u32], arena: &[u32]) -> bool
+    requires { ⌜ (inBounds (ruler .numbers) ≡ true) × (level ≤ scale ruler .m) ⌝ }
+    requires { ⌜ length (now dir) ≡ halfLength (scale ruler .m) ⌝ }
+    requires { ⌜ halfOk (now dir) (now arena) ≡ true ⌝ }
+    ensures { λ r. ⌜ r ≡ levelOk (scale ruler) half level (now (dir .entry)) (now (arena .entry)) ⌝ }
+{
+    let across = power(level) as usize;
+    let first = 2 * (across - 1);
+    let n = 2 * across;
+    if dir[first] == dir[first + n] {
+        return true;
+    }
+    let mut j: usize = 0;
+    while j < n {
+        let partition = Cell::at(level, (j / 2) as u32);
+        if !slot_at(ruler, half, partition, dir, arena, first + j) {
+            return false;
+        }
+        j += 1;
+    }
+    true
 }
 
 // Whether every slot of a half is.
@@ -120,13 +135,13 @@ pub fn slots_ok(ruler: Ruler, half: Half, dir: &[u32], arena: &[u32]) -> bool
     requires { ⌜ halfOk (now dir) (now arena) ≡ true ⌝ }
     ensures { λ r. ⌜ r ≡ slotsOk (scale ruler) half (now (dir .entry)) (now (arena .entry)) ⌝ }
 {
-    let n = dir.len() - 1;
-    let mut k: usize = 0;
-    while k < n {
-        if !slot_at(ruler, half, dir, arena, k) {
+    let m = ruler.bottom();
+    let mut level: u32 = 0;
+    while level <= m {
+        if !level_ok(ruler, half, level, dir, arena) {
             return false;
         }
-        k += 1;
+        level += 1;
     }
     true
 }

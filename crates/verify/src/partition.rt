@@ -4,14 +4,12 @@ use layout::is_accepted;
 use layout::time_outcome;
 use ruler::Cell;
 use ruler::Ruler;
-use ruler::power;
 use trip::Trip;
 ghost use mathlib.Core.Path.{_≡_};
 ghost use mathlib.Core.Bool.{true};
 ghost use Prim.Native.Nat.{_^_, _<_, _≤_};
 ghost use Rattle.ruler.specs.Ruler.{deepest, inBounds, scale};
 ghost use Rattle.layout.specs.Stored.{within, holds, holdsTrip, isOf};
-ghost use Rattle.layout.specs.Words.{levelOf};
 ghost use Rattle.layout.specs.Refusals.{fits};
 ghost use Rattle.verify.specs.Local.{standsAt};
 
@@ -78,19 +76,4 @@ pub fn stands(ruler: Ruler, d: Subdivision, partition: Cell, t: Trip) -> bool
     let original = ruler.cell(level, start).same(partition);
     let ends = ruler.cell(level, end).same(partition);
     fits(ruler, t) & (holds_trip(ruler, partition, t) & is_of(d, original, ends))
-}
-
-// The level of partition p.
-pub fn level_of(m: u32, p: u32) -> u32
-    requires { ⌜ m ≤ deepest ⌝ }
-    ensures { λ r. ⌜ r ≡ levelOf m p ⌝ }
-{
-    let mut level = m;
-    while 0 < level {
-        if power(level) - 1 <= p {
-            return level;
-        }
-        level -= 1;
-    }
-    0
 }

@@ -1,21 +1,74 @@
--- The part between the slot's word and the next.
-use Rattle.verify.specs.Local.{slotAt}
+-- An empty slot passes; the part of another is that between the slot's word and the next.
+use mathlib.Core.Path.{sym}
+use Rattle.layout.proofs.Numbers.{level-number, place-number}
+use Rattle.verify.specs.Local.{slotAt, slotOk}
+use Rattle.verify.proofs.SlotLevels.{slot-empty}
 use borrow.Author.Needs.{needs}
 use Rattle.verify.proofs.half.slot_at.Statement.{statement}
 use Rattle.verify.proofs.half.slot_at.Tie as tie
+
+abbrev start : tie.After-subdivision-of → tie.Start
+start c = c .before .before .before .before .before .before
+
+mul-if1 : tie.Need-mul-if1
+mul-if1 c = search needs
+
+shared-slice-read-if1 : tie.Need-shared-slice-read-if1
+shared-slice-read-if1 c = search needs
+
+add-if1 : tie.Need-add-if1
+add-if1 c = search needs
+
+mul-if1-2 : tie.Need-mul-if1-2
+mul-if1-2 c = search needs
+
+shared-slice-read-if1-2 : tie.Need-shared-slice-read-if1-2
+shared-slice-read-if1-2 c = search needs
+
+returns : tie.Need-returns
+returns c =
+    let g = c .before .before .before .before .before .args in
+    sym (slot-empty _ (g .half) (g .dir .now) (g .arena .now) (g .k) (c .if1 .taken))
+
+subdivision-of-requires : tie.Need-subdivision-of-requires
+subdivision-of-requires c κs = search needs
 
 add-part-there : tie.Need-add-part-there
 add-part-there c = search needs
 
 part-there-requires : tie.Need-part-there-requires
-part-there-requires c κs = c .before .before .pre .1 .1
+part-there-requires c κs = search needs
 
-slot-ok-requires : tie.Need-slot-ok-requires
-slot-ok-requires c κs = search needs
+in-row-requires : tie.Need-in-row-requires
+in-row-requires c κs = search needs
 
-returns : tie.Need-returns
-unfolding slotAt
-returns c = rw (c .slot-ok .ensures, c .before .part-there .ensures)
+returns-2 : tie.Need-returns-2
+unfolding slotAt slotOk
+returns-2 c =
+    let s = start (c .before .before) in
+    let p = s .args .partition in
+    let at = s .pre .1 .0 in
+    rw (
+      c .in-row .ensures,
+      c .before .part-there .ensures,
+      c .before .before .subdivision-of .ensures,
+      at .2,
+      level-number _ (p .0) (p .1) (at .0) (at .1),
+      place-number _ (p .0) (p .1) (at .0) (at .1),
+    )
 
 pub slot-at-spec : {M : Type 1} → statement M
-slot-at-spec = tie.close (tie.spec add-part-there part-there-requires slot-ok-requires returns)
+slot-at-spec =
+    tie.close
+    (tie.spec
+    mul-if1
+    shared-slice-read-if1
+    add-if1
+    mul-if1-2
+    shared-slice-read-if1-2
+    returns
+    subdivision-of-requires
+    add-part-there
+    part-there-requires
+    in-row-requires
+    returns-2)

@@ -1,66 +1,72 @@
--- Every slot below k passes.
+-- Every slot of the levels above `level` passes.
 use mathlib.Core.Path.{_≡_, sym, _∙_}
-use mathlib.Core.Bool.{Bool, true}
-use Prim.Native.Nat.{ℕ, _-_, _*_, _≤_, _<_}
-use lib.ListN.{length}
+use mathlib.Core.Bool.{true}
+use Prim.Native.Nat.{_+_, _-_, _≤_}
 use borrow.Author.Tests.{not-true, not-false}
 use Rattle.ruler.specs.Ruler.{scale}
-use Rattle.layout.specs.Words.{partitions, halfLength}
+use Rattle.layout.proofs.RulerCells.{deep-ruler}
 use Rattle.verify.specs.Passing.{below}
-use Rattle.verify.specs.Local.{slotAt, slotOk, slotsOk}
-use Rattle.verify.proofs.LoopTurns.{below-start, below-more, below-stop}
-use Rattle.verify.proofs.SlotsCut.{slot-in}
+use Rattle.verify.specs.Local.{firstSlot}
+use Rattle.verify.proofs.LoopTurns.{below-start}
+use Rattle.verify.proofs.SlotLevels.{passes, level-more, level-stop, level-end}
 use native.Mathlib.Omega.{arith}
 use Rattle.verify.proofs.half.slots_ok.Statement.{statement}
 use Rattle.verify.proofs.half.slots_ok.Tie as tie
 
 abbrev Inv-loop : tie.InvT-loop
-Inv-loop ruler half dir arena n k₀ k = (k ≤ n) × (below (λ j. slotOk (scale ruler) half j (slotAt dir arena j)) k ≡ true)
+Inv-loop ruler half dir arena m level₀ level = (level ≤ m + 1) × (below (passes (scale ruler) half dir arena) (firstSlot level) ≡ true)
 
 abbrev μ-loop : tie.MeasureT-loop
-μ-loop ruler half dir arena n k₀ k = n - k
+μ-loop ruler half dir arena m level₀ level = m + 1 - level
 
-sub-n : tie.Need-sub-n Inv-loop μ-loop
-unfolding halfLength
-sub-n c = omega arith
+-- the place that facts are taken from
+abbrev start : tie.At-loop Inv-loop μ-loop → tie.Start Inv-loop μ-loop
+start c = c .before .before .before .before
+
+bottom-requires : tie.Need-bottom-requires Inv-loop μ-loop
+bottom-requires c κs = tt
 
 loop-holds : tie.Need-loop-holds Inv-loop μ-loop
-unfolding halfLength
 loop-holds c = (omega arith, below-start _)
 
-slot-at-requires : tie.Need-slot-at-requires Inv-loop μ-loop
-unfolding halfLength
-slot-at-requires c κs =
-    let g = c .before .before .before .before in
-    let k = c .before .loop .k in
-    let l : k < 2 * partitions (scale (g .args .ruler) .m) = omega (arith, g .pre .1 .0) in
-    (g .pre .0, (l, slot-in (g .args .dir .now) (g .args .arena .now) _ (g .pre .1 .0) (g .pre .1 .1) k l))
+level-ok-requires : tie.Need-level-ok-requires Inv-loop μ-loop
+level-ok-requires c κs =
+    let g = start (c .before) in
+    ((g .pre .0, omega (arith, c .loop-test .taken, c .before .before .bottom .ensures)), g .pre .1)
 
 returns : tie.Need-returns Inv-loop μ-loop
-unfolding slotsOk
 returns c =
-    let g = c .before .before .before .before .before .before .args in
-    let k = c .before .before .before .loop .k in
-    let f : ℕ → Bool = λ j. slotOk (scale (g .ruler)) (g .half) j (slotAt (g .dir .now) (g .arena .now) j) in
-    sym (below-stop f (length (g .dir .now) - 1) k (omega arith) (sym (c .before .slot-at .ensures) ∙ not-true _ (c .if1 .taken)))
+    let k = c .before .before .before in
+    let g = start k in
+    let a = g .args in
+    let deep : k .loop .level ≤ scale (a .ruler) .m = omega (arith, c .before .before .loop-test .taken, k .before .bottom .ensures) in
+    let fails = sym (c .before .level-ok .ensures) ∙ not-true _ (c .if1 .taken) in
+    sym (level-stop (scale (a .ruler)) (a .half) (a .dir .now) (a .arena .now) (g .pre .1 .0) (k .loop .level) deep fails)
 
-add-k : tie.Need-add-k Inv-loop μ-loop
-add-k c = omega arith
+add-level : tie.Need-add-level Inv-loop μ-loop
+add-level c =
+    let k = c .before .before .before in
+    let g = start k in
+    omega (arith, c .before .before .loop-test .taken, k .before .bottom .ensures, deep-ruler (g .args .ruler) (g .pre .0))
 
 loop-less : tie.Need-loop-less Inv-loop μ-loop
 loop-less c = omega arith
 
 loop-again : tie.Need-loop-again Inv-loop μ-loop
 loop-again c =
-    let k = c .before .before .before .loop in
-    (omega arith, below-more _ (k .k) (k .inv .1) (sym (c .before .slot-at .ensures) ∙ not-false _ (c .if1 .left)))
+    let k = c .before .before .before in
+    let g = start k in
+    let a = g .args in
+    let ok = sym (c .before .level-ok .ensures) ∙ not-false _ (c .if1 .left) in
+    (omega arith, level-more (scale (a .ruler)) (a .half) (a .dir .now) (a .arena .now) (k .loop .level) (k .loop .inv .1) ok)
 
 returns-2 : tie.Need-returns-2 Inv-loop μ-loop
-unfolding slotsOk
 returns-2 c =
     let k = c .before .loop in
-    let end : k .k ≡ length (c .before .before .before .before .args .dir .now) - 1 = omega arith in
-    sym (rw end at (k .inv .1))
+    let g = start (c .before) in
+    let a = g .args in
+    let end : k .level ≡ scale (a .ruler) .m + 1 = omega (arith, k .inv .0, c .loop-test .left, c .before .before .bottom .ensures) in
+    sym (level-end (scale (a .ruler)) (a .half) (a .dir .now) (a .arena .now) (g .pre .1 .0) (k .level) end (k .inv .1))
 
 pub slots-ok-spec : {M : Type 1} → statement M
 slots-ok-spec =
@@ -68,11 +74,11 @@ slots-ok-spec =
     (tie.spec
     Inv-loop
     μ-loop
-    sub-n
+    bottom-requires
     loop-holds
-    slot-at-requires
+    level-ok-requires
     returns
-    add-k
+    add-level
     loop-less
     loop-again
     returns-2)
