@@ -35,3 +35,11 @@ up-from m L x i h = le-div-iff-mul-le (pow-pos (m - L)) .0 h
 pub up-to : (m L x i : ℕ) → cellUp m L x ≤ i → x < (i + 1) * 2 ^ (m - L)
 unfolding cellUp
 up-to m L x i h = div-lt-iff-lt-mul (pow-pos (m - L)) .0 (omega arith)
+
+-- and no other cell has them
+pub up-at : (m L x i : ℕ) → i * 2 ^ (m - L) ≤ x → x < (i + 1) * 2 ^ (m - L) → cellUp m L x ≡ i
+unfolding cellUp
+up-at m L x i h l =
+    let from = le-div-iff-mul-le {k = 2 ^ (m - L)} {x = i} {y = x} (pow-pos (m - L)) .1 h in
+    let to = div-lt-iff-lt-mul {k = 2 ^ (m - L)} {x = x} {y = i + 1} (pow-pos (m - L)) .1 l in
+    omega arith

@@ -3,7 +3,7 @@ use mathlib.Core.Path.{_≡_, refl, ap, _∙_}
 use mathlib.Core.Bool.{_&&_}
 use Prim.Native.Nat.{ℕ, _+_, _-_, _/_, _^_, _≤_, _<_}
 use native.Mathlib.Omega.{arith}
-use lib.Dec.{T, leb, leb→le, ltb→lt}
+use lib.Dec.{T, leb, leb→le, ltb→lt, lt→ltb}
 use lib.Pow.{pow-mono, shr-shr, shr-mono, shr-lt}
 use Rattle.lists.proofs.Tests.{of-and}
 use Rattle.ruler.specs.declared.Time.{Time}
@@ -57,6 +57,11 @@ fair n t = let h = bounds n t .fits in record {
   one-of = λ t b. shr-lt (n .m) (n .w - n .m) (let e : n .m + (n .w - n .m) ≡ n .w = omega arith in rw e (ltb→lt (t .0) (2 ^ n .w) b));
   not-far = λ u b. omega (arith, ltb→lt (u .0) (2 ^ n .w) b, pow-mono (bounds n t .wide));
 }
+
+-- a time that is no later than one of the ruler is of the ruler
+pub has-earlier : (n : Numbers) (t u : Time) → t .0 ≤ u .0 → T (scaleOf n .has u) → T (scaleOf n .has t)
+unfolding scaleOf
+has-earlier n t u l h = lt→ltb (t .0) (2 ^ n .w) (omega (arith, ltb→lt (u .0) (2 ^ n .w) h))
 
 -- "The cell of time t at level L is the whole part of t / 2^(w − L)."
 pub cell-at-level : (n : Numbers) (L : ℕ) (t : Time) → n .m ≤ n .w → L ≤ n .m → cellUp (n .m) L (scaleOf n .cell t) ≡ t .0 / 2 ^ (n .w - L)

@@ -1,4 +1,6 @@
 // One half of the directory with its arena: its counts, its tail, and the entries of its slots.
+use crate::partition::Frame;
+use crate::partition::frame_of;
 use crate::partition::stands;
 use layout::ENTRY_WORDS;
 use layout::Half;
@@ -19,7 +21,8 @@ ghost use Rattle.ruler.specs.Ruler.{inBounds, scale};
 ghost use Rattle.layout.specs.Words.{rows, order, partitionNumber, halfLength};
 ghost use Rattle.store.specs.Parts.{PartThere};
 ghost use Rattle.verify.specs.Passing.{inRow, rising, blank};
-ghost use Rattle.verify.specs.Local.{halfOk, slotAt, standsAt, slotOk, levelOk, slotsOk};
+ghost use Rattle.verify.specs.Frames.{FrameAt, standsIn};
+ghost use Rattle.verify.specs.Local.{halfOk, slotAt, slotOk, levelOk, slotsOk};
 
 // Whether no word is below the one before it.
 fn rises(dir: &[u32]) -> bool
@@ -64,24 +67,24 @@ pub fn half_ok(dir: &[u32], arena: &[u32]) -> bool
     (first == 0) & (up & ((used <= arena.len()) & tail))
 }
 
-// Whether each entry of a part may stand in this subdivision of a partition, and comes after the one before it.
-fn in_row(ruler: Ruler, d: Subdivision, partition: Cell, part: &[u32]) -> bool
+// Whether each entry of a part may stand in a slot of this frame, and comes after the one before it in the order of its subdivision.
+fn in_row(ruler: Ruler, d: Subdivision, frame: Frame, part: &[u32]) -> bool
     requires { ⌜ inBounds (ruler .numbers) ≡ true ⌝ }
-    requires { ⌜ (partition .0 ≤ scale ruler .m) × (partition .1 < 2 ^ partition .0) ⌝ }
-    ensures { λ r. ⌜ r ≡ inRow (standsAt (scale ruler) d (partition .0) (partition .1)) (order d) (rows (now (part .entry))) ⌝ }
+    requires { ⌜ FrameAt (scale ruler .m) frame ⌝ }
+    ensures { λ r. ⌜ r ≡ inRow (standsIn (scale ruler) frame) (order d) (rows (now (part .entry))) ⌝ }
 {
     let n = part.len() / ENTRY_WORDS;
     if n == 0 {
         return true;
     }
     let mut last = trip_at(part, 0);
-    if !stands(ruler, d, partition, last) {
+    if !stands(ruler, frame, last) {
         return false;
     }
     let mut k: usize = 1;
     while k < n {
         let t = trip_at(part, k);
-        if !(stands(ruler, d, partition, t) & precedes(d, last, t)) {
+        if !(stands(ruler, frame, t) & precedes(d, last, t)) {
             return false;
         }
         last = t;
@@ -100,8 +103,10 @@ fn slot_at(ruler: Ruler, half: Half, partition: Cell, dir: &[u32], arena: &[u32]
     if dir[k] == dir[k + 1] {
         return true;
     }
-    let d = subdivision_of(half, k % 2 == 1);
-    in_row(ruler, d, partition, part_there(dir, arena, k, k + 1))
+    let aft = k % 2 == 1;
+    let frame = frame_of(ruler.bottom(), half, aft, partition);
+    let d = subdivision_of(half, aft);
+    in_row(ruler, d, frame, part_there(dir, arena, k, k + 1))
 }
 
 // Whether every slot of a level of a half is. A level whose outer words are equal has no entry.

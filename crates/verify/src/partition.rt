@@ -1,17 +1,16 @@
 // One trip in one partition: whether it may stand there.
-use layout::Subdivision;
-use layout::is_accepted;
-use layout::time_outcome;
+use layout::Half;
 use ruler::Cell;
 use ruler::Ruler;
+use ruler::power;
 use trip::Trip;
 ghost use mathlib.Core.Path.{_≡_};
 ghost use mathlib.Core.Bool.{true};
 ghost use Prim.Native.Nat.{_^_, _<_, _≤_};
 ghost use Rattle.ruler.specs.Ruler.{deepest, inBounds, scale};
-ghost use Rattle.layout.specs.Stored.{within, holds, holdsTrip, isOf};
+ghost use Rattle.layout.specs.Stored.{within};
 ghost use Rattle.layout.specs.Refusals.{fits};
-ghost use Rattle.verify.specs.Local.{standsAt};
+ghost use Rattle.verify.specs.Frames.{hasCell, AtLevel, startsOf, endsOf, frameOf, FrameAt, standsIn};
 
 // Whether all cells of a partition lie in a..b.
 pub fn lies_in(partition: Cell, a: Cell, b: Cell) -> bool
@@ -22,58 +21,119 @@ pub fn lies_in(partition: Cell, a: Cell, b: Cell) -> bool
     a.no_later(partition.first_at(m)) & partition.last_at(m).no_later(b)
 }
 
-// Whether a partition holds a trip with the level-m cells a..b.
-fn holds(partition: Cell, a: Cell, b: Cell) -> bool
-    requires { ⌜ (a .0 ≤ deepest) × (b .0 ≡ a .0) × (partition .0 ≤ a .0) × (partition .1 < 2 ^ partition .0) ⌝ }
-    ensures { λ r. ⌜ r ≡ holds (a .0) (partition .0) (partition .1) (a .1) (b .1) ⌝ }
-{
-    if partition.level() == 0 {
-        return lies_in(partition, a, b);
-    }
-    lies_in(partition, a, b) & !lies_in(partition.above(), a, b)
+// Some cells of one level: from one on, up to another that is not of them.
+pub struct Cells {
+    from: Cell,
+    until: Cell,
 }
 
-// Whether a partition holds the trip.
-fn holds_trip(ruler: Ruler, partition: Cell, t: Trip) -> bool
-    requires { ⌜ inBounds (ruler .numbers) ≡ true ⌝ }
-    requires { ⌜ (partition .0 ≤ scale ruler .m) × (partition .1 < 2 ^ partition .0) ⌝ }
-    ensures { λ r. ⌜ r ≡ holdsTrip (scale ruler) (partition .0) (partition .1) t ⌝ }
-{
-    let start = t.start;
-    let end = t.end;
-    holds(partition, ruler.bottom_cell(start), ruler.bottom_cell(end))
-}
-
-// Whether an entry that is original or not, and "in" or not, is one of this subdivision.
-fn is_of(d: Subdivision, original: bool, ends: bool) -> bool
-    ensures { λ r. ⌜ r ≡ isOf d original ends ⌝ }
-{
-    match d {
-        Subdivision::OIn => original & ends,
-        Subdivision::OAft => original & !ends,
-        Subdivision::RIn => !original & ends,
-        Subdivision::RAft => !original & !ends,
+impl Cells {
+    fn has(self, cell: Cell) -> bool
+        requires { ⌜ AtLevel (cell .0) self ⌝ }
+        ensures { λ r. ⌜ r ≡ hasCell self cell ⌝ }
+    {
+        let from = self.from;
+        let until = self.until;
+        if !from.no_later(cell) {
+            return false;
+        }
+        !until.no_later(cell)
     }
 }
 
-// Whether the trip passes tests 4 and 5.
+// Where the entries of a half start that this partition has.
+fn starts_of(m: u32, half: Half, partition: Cell) -> Cells
+    requires { ⌜ (m ≤ deepest) × (partition .0 ≤ m) × (partition .1 < 2 ^ partition .0) ⌝ }
+    ensures { λ r. ⌜ r ≡ startsOf m half (partition .0) (partition .1) ⌝ }
+{
+    let first = partition.first_at(m);
+    match half {
+        Half::Originals => Cells {
+            from: first,
+            until: first.next(),
+        },
+        Half::Replicas => {
+            if partition.parity() == 0 {
+                return Cells {
+                    from: Cell::at(m, 0),
+                    until: first,
+                };
+            }
+            Cells {
+                from: partition.above().first_at(m).next(),
+                until: first,
+            }
+        }
+    }
+}
+
+// Where its "in" or "aft" entries end.
+fn ends_of(m: u32, aft: bool, partition: Cell) -> Cells
+    requires { ⌜ (m ≤ deepest) × (partition .0 ≤ m) × (partition .1 < 2 ^ partition .0) ⌝ }
+    ensures { λ r. ⌜ r ≡ endsOf m aft (partition .0) (partition .1) ⌝ }
+{
+    let last = partition.last_at(m);
+    let after = last.next();
+    if !aft {
+        return Cells {
+            from: last,
+            until: after,
+        };
+    }
+    if (partition.level() == 0) | (partition.parity() == 1) {
+        return Cells {
+            from: after,
+            until: Cell::at(m, power(m)),
+        };
+    }
+    Cells {
+        from: after,
+        until: partition.above().last_at(m),
+    }
+}
+
+// The level-m cells in which the trips of a slot start and end: found once for a slot, so that a trip is tested by its own two cells.
+pub struct Frame {
+    starts: Cells,
+    ends: Cells,
+}
+
+pub fn frame_of(m: u32, half: Half, aft: bool, partition: Cell) -> Frame
+    requires { ⌜ (m ≤ deepest) × (partition .0 ≤ m) × (partition .1 < 2 ^ partition .0) ⌝ }
+    ensures { λ r. ⌜ r ≡ frameOf m half aft (partition .0) (partition .1) ⌝ }
+{
+    Frame {
+        starts: starts_of(m, half, partition),
+        ends: ends_of(m, aft, partition),
+    }
+}
+
+// Whether the trip passes tests 4 and 5. A start that is no later than an end on the ruler is on the ruler.
 pub fn fits(ruler: Ruler, t: Trip) -> bool
     requires { ⌜ inBounds (ruler .numbers) ≡ true ⌝ }
     ensures { λ r. ⌜ r ≡ fits (scale ruler) t ⌝ }
 {
-    is_accepted(time_outcome(ruler, t.start, t.end, 0))
-}
-
-// Whether the trip may stand in this subdivision of a partition.
-pub fn stands(ruler: Ruler, d: Subdivision, partition: Cell, t: Trip) -> bool
-    requires { ⌜ inBounds (ruler .numbers) ≡ true ⌝ }
-    requires { ⌜ (partition .0 ≤ scale ruler .m) × (partition .1 < 2 ^ partition .0) ⌝ }
-    ensures { λ r. ⌜ r ≡ standsAt (scale ruler) d (partition .0) (partition .1) t ⌝ }
-{
     let start = t.start;
     let end = t.end;
-    let level = partition.level();
-    let original = ruler.cell(level, start).same(partition);
-    let ends = ruler.cell(level, end).same(partition);
-    fits(ruler, t) & (holds_trip(ruler, partition, t) & is_of(d, original, ends))
+    if !ruler.has(end) {
+        return false;
+    }
+    !end.before(start)
+}
+
+// Whether the trip may stand in a slot of this frame.
+pub fn stands(ruler: Ruler, frame: Frame, t: Trip) -> bool
+    requires { ⌜ inBounds (ruler .numbers) ≡ true ⌝ }
+    requires { ⌜ FrameAt (scale ruler .m) frame ⌝ }
+    ensures { λ r. ⌜ r ≡ standsIn (scale ruler) frame t ⌝ }
+{
+    if !fits(ruler, t) {
+        return false;
+    }
+    let starts = frame.starts;
+    let ends = frame.ends;
+    if !starts.has(ruler.bottom_cell(t.start)) {
+        return false;
+    }
+    ends.has(ruler.bottom_cell(t.end))
 }

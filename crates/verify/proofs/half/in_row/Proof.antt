@@ -7,19 +7,19 @@ use borrow.Author.Tests.{not-true, not-false}
 use Rattle.ruler.specs.Ruler.{scale}
 use Rattle.layout.specs.Words.{tripAt, rows, order}
 use Rattle.verify.specs.Passing.{after, inRow}
-use Rattle.verify.specs.Local.{standsAt}
+use Rattle.verify.specs.Frames.{standsIn}
 use Rattle.verify.proofs.LoopTurns.{row-empty, row-first, row-fails, row-more, row-stop, row-end}
 use native.Mathlib.Omega.{arith}
 use Rattle.verify.proofs.half.in_row.Statement.{statement}
 use Rattle.verify.proofs.half.in_row.Tie as tie
 
 abbrev Inv-loop : tie.InvT-loop
-Inv-loop ruler d partition part n last₀ k₀ last k =
-    let p = standsAt (scale ruler) d (partition .0) (partition .1) in
+Inv-loop ruler d frame part n last₀ k₀ last k =
+    let p = standsIn (scale ruler) frame in
     after p (order d) last (drop k (rows part)) ≡ inRow p (order d) (rows part)
 
 abbrev μ-loop : tie.MeasureT-loop
-μ-loop ruler d partition part n last₀ k₀ last k = n - k
+μ-loop ruler d frame part n last₀ k₀ last k = n - k
 
 -- the places that facts are taken from
 abbrev start-before-loop : tie.At-loop Inv-loop μ-loop → tie.Start Inv-loop μ-loop
@@ -28,7 +28,7 @@ start-before-loop c = c .before .before .before .before .before .before
 returns : tie.Need-returns Inv-loop μ-loop
 returns c =
     let g = c .before .before .args in
-    let p = standsAt (scale (g .ruler)) (g .d) (g .partition .0) (g .partition .1) in
+    let p = standsIn (scale (g .ruler)) (g .frame) in
     sym (row-empty (g .part .now) p (order (g .d)) (omega arith))
 
 trip-at-requires : tie.Need-trip-at-requires Inv-loop μ-loop
@@ -40,7 +40,7 @@ stands-requires c κs = c .before .before .before .pre
 returns-2 : tie.Need-returns-2 Inv-loop μ-loop
 returns-2 c =
     let g = c .before .before .before .before .before .args in
-    let p = standsAt (scale (g .ruler)) (g .d) (g .partition .0) (g .partition .1) in
+    let p = standsIn (scale (g .ruler)) (g .frame) in
     let first = tripAt (g .part .now) 0 in
     let fails : p first ≡ false = rw (← c .before .before .trip-at .ensures, ← c .before .stands .ensures) (not-true _ (c .if2 .taken)) in
     sym (row-fails (g .part .now) p (order (g .d)) (omega arith) fails)
@@ -48,7 +48,7 @@ returns-2 c =
 loop-holds : tie.Need-loop-holds Inv-loop μ-loop
 loop-holds c =
     let g = c .before .before .before .before .before .args in
-    let p = standsAt (scale (g .ruler)) (g .d) (g .partition .0) (g .partition .1) in
+    let p = standsIn (scale (g .ruler)) (g .frame) in
     let first = tripAt (g .part .now) 0 in
     let passes : p first ≡ true = rw (← c .before .before .trip-at .ensures, ← c .before .stands .ensures) (not-false _ (c .if2 .left)) in
     rw (c .before .before .trip-at .ensures) (row-first (g .part .now) p (order (g .d)) (omega arith) passes)
@@ -65,7 +65,7 @@ precedes-requires c κs = tt
 returns-3 : tie.Need-returns-3 Inv-loop μ-loop
 returns-3 c =
     let g = start-before-loop (c .before .before .before .before .before) .args in
-    let p = standsAt (scale (g .ruler)) (g .d) (g .partition .0) (g .partition .1) in
+    let p = standsIn (scale (g .ruler)) (g .frame) in
     let k = c .before .before .before .before .before .loop in
     let t = tripAt (g .part .now) (k .k) in
     let read = c .before .before .before .trip-at2 .ensures in
@@ -85,7 +85,7 @@ loop-less c = omega arith
 loop-again : tie.Need-loop-again Inv-loop μ-loop
 loop-again c =
     let g = start-before-loop (c .before .before .before .before .before) .args in
-    let p = standsAt (scale (g .ruler)) (g .d) (g .partition .0) (g .partition .1) in
+    let p = standsIn (scale (g .ruler)) (g .frame) in
     let k = c .before .before .before .before .before .loop in
     let t = tripAt (g .part .now) (k .k) in
     let read = c .before .before .before .trip-at2 .ensures in
@@ -97,7 +97,7 @@ loop-again c =
 returns-4 : tie.Need-returns-4 Inv-loop μ-loop
 returns-4 c =
     let g = start-before-loop (c .before) .args in
-    let p = standsAt (scale (g .ruler)) (g .d) (g .partition .0) (g .partition .1) in
+    let p = standsIn (scale (g .ruler)) (g .frame) in
     let k = c .before .loop in
     sym (row-end (g .part .now) p (order (g .d)) (k .last) (k .k) (omega arith)) ∙ k .inv
 

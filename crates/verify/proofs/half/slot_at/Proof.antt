@@ -1,13 +1,15 @@
 -- An empty slot passes; the part of another is that between the slot's word and the next.
 use mathlib.Core.Path.{sym}
-use Rattle.layout.proofs.Numbers.{level-number, place-number}
-use Rattle.verify.specs.Local.{slotAt, slotOk}
+use Rattle.layout.proofs.RulerCells.{deep-ruler, fair-ruler}
+use Rattle.verify.specs.Local.{slotAt}
 use Rattle.verify.proofs.SlotLevels.{slot-empty}
+use Rattle.verify.proofs.Framed.{frame-at, slot-framed}
 use borrow.Author.Needs.{needs}
 use Rattle.verify.proofs.half.slot_at.Statement.{statement}
 use Rattle.verify.proofs.half.slot_at.Tie as tie
 
-abbrev start : tie.After-subdivision-of → tie.Start
+-- the place that facts are taken from
+abbrev start : tie.After-bottom → tie.Start
 start c = c .before .before .before .before .before .before
 
 mul-if1 : tie.Need-mul-if1
@@ -30,6 +32,14 @@ returns c =
     let g = c .before .before .before .before .before .args in
     sym (slot-empty _ (g .half) (g .dir .now) (g .arena .now) (g .k) (c .if1 .taken))
 
+bottom-requires : tie.Need-bottom-requires
+bottom-requires c κs = search needs
+
+frame-of-requires : tie.Need-frame-of-requires
+frame-of-requires c κs =
+    let s = start c in
+    rw (c .bottom .ensures) (deep-ruler (s .args .ruler) (s .pre .0), s .pre .1 .0 .0, s .pre .1 .0 .1)
+
 subdivision-of-requires : tie.Need-subdivision-of-requires
 subdivision-of-requires c κs = search needs
 
@@ -40,22 +50,25 @@ part-there-requires : tie.Need-part-there-requires
 part-there-requires c κs = search needs
 
 in-row-requires : tie.Need-in-row-requires
-in-row-requires c κs = search needs
+in-row-requires c κs =
+    let f = c .before .before in
+    rw (f .frame-of .ensures, f .before .bottom .ensures) (start (f .before) .pre .0, frame-at _ _ _ _ _)
 
 returns-2 : tie.Need-returns-2
-unfolding slotAt slotOk
+unfolding slotAt
 returns-2 c =
-    let s = start (c .before .before) in
+    let f = c .before .before .before in
+    let s = start (f .before) in
     let p = s .args .partition in
     let at = s .pre .1 .0 in
     rw (
       c .in-row .ensures,
       c .before .part-there .ensures,
       c .before .before .subdivision-of .ensures,
-      at .2,
-      level-number _ (p .0) (p .1) (at .0) (at .1),
-      place-number _ (p .0) (p .1) (at .0) (at .1),
+      f .frame-of .ensures,
+      f .before .bottom .ensures,
     )
+    (slot-framed _ (fair-ruler (s .args .ruler) (s .pre .0)) (s .args .half) (s .args .k) (p .0) (p .1) (at .0) (at .1) (at .2) _)
 
 pub slot-at-spec : {M : Type 1} → statement M
 slot-at-spec =
@@ -67,6 +80,8 @@ slot-at-spec =
     mul-if1-2
     shared-slice-read-if1-2
     returns
+    bottom-requires
+    frame-of-requires
     subdivision-of-requires
     add-part-there
     part-there-requires
