@@ -10,14 +10,17 @@ use lib.Bits.{bitOr, or-add-and, and-le-r}
 use lib.Dec.{eqb}
 use lib.ListN.{length, getD, drop, drop-of-length-le}
 use lib.Seq.{drop-cons}
-use borrow.Author.Tests.{le-leb, lt-leb, eq-eqb, ne-eqb}
+use borrow.Author.Tests.{le-leb, lt-leb, lt-ltb, le-ltb, ne-eqb}
 use Rattle.lists.specs.Lists.{sumOver}
 use Rattle.lists.proofs.Tests.{of-T, to-T}
 use Rattle.lists.proofs.Halving.{at-mem}
 use Rattle.trip.specs.declared.Trip.{Trip}
-use Rattle.layout.specs.Words.{entryWords, tripAt, rows}
+use Rattle.layout.specs.declared.Subdivision.{Subdivision}
+use Rattle.layout.specs.Words.{entryWords, tripAt, rows, order}
 use Rattle.layout.proofs.Rows.{length-rows, getD-rows}
-use Rattle.store.specs.Ordered.{noTrip}
+use Rattle.store.specs.Entries.{wordEnd}
+use Rattle.store.specs.Ordered.{noTrip, keyPlace, keyBy}
+use Rattle.store.proofs.SlotKeys.{key-below}
 use Rattle.verify.specs.Passing.{below, each, after, inRow, rising, blank}
 use Rattle.verify.proofs.Passing.{of-each}
 
@@ -97,18 +100,24 @@ module _ (part : List ℕ) where
     row-fails h e = let l : rows part ≡ tripAt part 0 ∷ drop (0 + 1) (rows part) = row-left 0 h in rw (l, e)
 
     module _ (x : Trip) (k : ℕ) where
-      pub row-more : k < length part / entryWords → p (tripAt part k) && lt x (tripAt part k) ≡ true
-          → after p lt (tripAt part k) (drop (k + 1) (rows part)) ≡ after p lt x (drop k (rows part))
+      pub row-out : k < length part / entryWords → p (tripAt part k) ≡ false → after p lt x (drop k (rows part)) ≡ false
       unfolding after
-      row-more h e = rw (row-left k h, e)
-
-      pub row-stop : k < length part / entryWords → p (tripAt part k) && lt x (tripAt part k) ≡ false → after p lt x (drop k (rows part)) ≡ false
-      unfolding after
-      row-stop h e = rw (row-left k h, e)
+      row-out h e = rw (row-left k h, e)
 
       pub row-end : length part / entryWords ≤ k → after p lt x (drop k (rows part)) ≡ true
       unfolding after
       row-end h = rw (row-none k h)
+
+  -- in the order of a subdivision, by the keys of x and of entry k
+  module _ (p : Trip → Bool) (d : Subdivision) (by : ℕ) (q : by ≡ keyPlace d) (x : Trip) (k : ℕ) (i : x .id < wordEnd) (j : tripAt part k .id < wordEnd) where
+    pub row-low : k < length part / entryWords → p (tripAt part k) ≡ true → keyBy by (tripAt part k) ≤ keyBy by x → after p (order d) x (drop k (rows part)) ≡ false
+    unfolding after
+    row-low h e l = rw (row-left k h, e, key-below d by q x (tripAt part k) i j, le-ltb (keyBy by x) (keyBy by (tripAt part k)) l)
+
+    pub row-more : k < length part / entryWords → p (tripAt part k) ≡ true → keyBy by x < keyBy by (tripAt part k)
+        → after p (order d) (tripAt part k) (drop (k + 1) (rows part)) ≡ after p (order d) x (drop k (rows part))
+    unfolding after
+    row-more h e l = rw (row-left k h, e, key-below d by q x (tripAt part k) i j, lt-ltb (keyBy by x) (keyBy by (tripAt part k)) l)
 
   module _ (f : Trip → ℕ) (k : ℕ) where
     pub sum-more : k < length part / entryWords → sumOver f (drop k (rows part)) ≡ f (tripAt part k) + sumOver f (drop (k + 1) (rows part))

@@ -8,14 +8,15 @@ use native.Mathlib.Numerals.{add-one}
 use native.Mathlib.Decide.{decLt}
 use native.Mathlib.Omega.{arith}
 use lib.Dec.{T}
-use lib.ListN.{length, getD}
+use lib.ListN.{length, getD, drop, length-drop}
+use lib.Seq.{length-take-le}
 use lib.Pow.{pow-pos, pow-mono}
 use Rattle.lists.proofs.Tests.{to-T, of-T}
 use Rattle.ruler.specs.Ruler.{Scale, deepest}
 use Rattle.layout.specs.declared.Half.{Half}
 use Rattle.layout.specs.Words.{entryWords, partitions, partitionNumber, halfLength}
 use Rattle.layout.proofs.Numbers.{number-lt}
-use Rattle.store.specs.Parts.{partWords}
+use Rattle.store.specs.Parts.{partWords, PartThere}
 use Rattle.verify.specs.Passing.{below}
 use Rattle.verify.specs.Local.{halfOk, slotAt, slotOk, firstSlot, levelOk, slotsOk}
 use Rattle.verify.proofs.Passing.{of-below, to-below}
@@ -43,6 +44,17 @@ few-across m L across h l e =
     let few = pow-mono (le-trans l h) in
     let last = slot-lt m L (2 * 2 ^ L - 1) l (omega arith) in
     (omega arith, omega arith, omega arith)
+
+-- the entries of a slot are as many as its two words say
+pub part-count : (dir arena : List ℕ) (k : ℕ) → PartThere dir arena k (k + 1)
+    → length (partWords dir arena k (k + 1)) / entryWords ≡ getD dir (k + 1) 0 - getD dir k 0
+unfolding partWords
+part-count dir arena k w =
+    let a = entryWords * getD dir k 0 in
+    let b = entryWords * getD dir (k + 1) 0 in
+    let rises = w .rises in
+    let room = w .room in
+    rw (length-take-le (b - a) (drop a arena) (rw length-drop (omega arith))) (omega arith)
 
 -- ---- what has no entry passes
 

@@ -2,23 +2,23 @@
 use crate::partition::Frame;
 use crate::partition::frame_of;
 use crate::partition::stands;
-use layout::ENTRY_WORDS;
 use layout::Half;
 use layout::Subdivision;
 use layout::subdivision_of;
 use ruler::Cell;
 use ruler::Ruler;
 use ruler::power;
-use store::entry::precedes;
 use store::entry::trip_at;
 use store::half::words_of;
+use store::ordering::key_at;
+use store::ordering::key_place;
 use store::part::part_there;
 ghost use mathlib.Core.Path.{_≡_};
 ghost use mathlib.Core.Bool.{true};
 ghost use Prim.Native.Nat.{_+_, _/_, _^_, _<_, _≤_};
 ghost use lib.ListN.{length, getD, drop};
 ghost use Rattle.ruler.specs.Ruler.{inBounds, scale};
-ghost use Rattle.layout.specs.Words.{rows, order, partitionNumber, halfLength};
+ghost use Rattle.layout.specs.Words.{entryWords, rows, order, partitionNumber, halfLength};
 ghost use Rattle.store.specs.Parts.{PartThere};
 ghost use Rattle.verify.specs.Passing.{inRow, rising, blank};
 ghost use Rattle.verify.specs.Frames.{FrameAt, standsIn};
@@ -67,27 +67,29 @@ pub fn half_ok(dir: &[u32], arena: &[u32]) -> bool
     (first == 0) & (up & ((used <= arena.len()) & tail))
 }
 
-// Whether each entry of a part may stand in a slot of this frame, and comes after the one before it in the order of its subdivision.
-fn in_row(ruler: Ruler, d: Subdivision, frame: Frame, part: &[u32]) -> bool
+// Whether each of the n entries of a part may stand in a slot of this frame, and comes after the one before it in the order of its subdivision,
+// which is that of one number.
+fn in_row(ruler: Ruler, d: Subdivision, frame: Frame, part: &[u32], n: usize) -> bool
     requires { ⌜ inBounds (ruler .numbers) ≡ true ⌝ }
     requires { ⌜ FrameAt (scale ruler .m) frame ⌝ }
+    requires { ⌜ (n ≡ length (now part) / entryWords) × (0 < n) ⌝ }
     ensures { λ r. ⌜ r ≡ inRow (standsIn (scale ruler) frame) (order d) (rows (now (part .entry))) ⌝ }
 {
-    let n = part.len() / ENTRY_WORDS;
-    if n == 0 {
-        return true;
-    }
-    let mut last = trip_at(part, 0);
-    if !stands(ruler, frame, last) {
+    if !stands(ruler, frame, trip_at(part, 0)) {
         return false;
     }
+    let by = key_place(d);
+    let mut last = key_at(part, by, 0);
     let mut k: usize = 1;
     while k < n {
-        let t = trip_at(part, k);
-        if !(stands(ruler, frame, t) & precedes(d, last, t)) {
+        if !stands(ruler, frame, trip_at(part, k)) {
             return false;
         }
-        last = t;
+        let key = key_at(part, by, k);
+        if key <= last {
+            return false;
+        }
+        last = key;
         k += 1;
     }
     true
@@ -100,13 +102,16 @@ fn slot_at(ruler: Ruler, half: Half, partition: Cell, dir: &[u32], arena: &[u32]
     requires { ⌜ PartThere (now dir) (now arena) k (k + 1) ⌝ }
     ensures { λ r. ⌜ r ≡ slotOk (scale ruler) half k (slotAt (now (dir .entry)) (now (arena .entry)) k) ⌝ }
 {
-    if dir[k] == dir[k + 1] {
+    let from = dir[k];
+    let to = dir[k + 1];
+    if from == to {
         return true;
     }
     let aft = k % 2 == 1;
     let frame = frame_of(ruler.bottom(), half, aft, partition);
     let d = subdivision_of(half, aft);
-    in_row(ruler, d, frame, part_there(dir, arena, k, k + 1))
+    let n = (to - from) as usize;
+    in_row(ruler, d, frame, part_there(dir, arena, k, k + 1), n)
 }
 
 // Whether every slot of a level of a half is. A level whose outer words are equal has no entry.

@@ -2,8 +2,9 @@
 use mathlib.Core.Path.{sym}
 use Rattle.layout.proofs.RulerCells.{deep-ruler, fair-ruler}
 use Rattle.verify.specs.Local.{slotAt}
-use Rattle.verify.proofs.SlotLevels.{slot-empty}
+use Rattle.verify.proofs.SlotLevels.{part-count, slot-empty}
 use Rattle.verify.proofs.Framed.{frame-at, slot-framed}
+use native.Mathlib.Omega.{arith}
 use borrow.Author.Needs.{needs}
 use Rattle.verify.proofs.half.slot_at.Statement.{statement}
 use Rattle.verify.proofs.half.slot_at.Tie as tie
@@ -12,20 +13,20 @@ use Rattle.verify.proofs.half.slot_at.Tie as tie
 abbrev start : tie.After-bottom → tie.Start
 start c = c .before .before .before .before .before .before
 
-mul-if1 : tie.Need-mul-if1
-mul-if1 c = search needs
+mul-from : tie.Need-mul-from
+mul-from c = search needs
 
-shared-slice-read-if1 : tie.Need-shared-slice-read-if1
-shared-slice-read-if1 c = search needs
+shared-slice-read-from : tie.Need-shared-slice-read-from
+shared-slice-read-from c = search needs
 
-add-if1 : tie.Need-add-if1
-add-if1 c = search needs
+add-to : tie.Need-add-to
+add-to c = search needs
 
-mul-if1-2 : tie.Need-mul-if1-2
-mul-if1-2 c = search needs
+mul-to : tie.Need-mul-to
+mul-to c = search needs
 
-shared-slice-read-if1-2 : tie.Need-shared-slice-read-if1-2
-shared-slice-read-if1-2 c = search needs
+shared-slice-read-to : tie.Need-shared-slice-read-to
+shared-slice-read-to c = search needs
 
 returns : tie.Need-returns
 returns c =
@@ -43,6 +44,12 @@ frame-of-requires c κs =
 subdivision-of-requires : tie.Need-subdivision-of-requires
 subdivision-of-requires c κs = search needs
 
+sub-n : tie.Need-sub-n
+sub-n c = search needs
+
+cast-n : tie.Need-cast-n
+cast-n c = search needs
+
 add-part-there : tie.Need-add-part-there
 add-part-there c = search needs
 
@@ -52,7 +59,13 @@ part-there-requires c κs = search needs
 in-row-requires : tie.Need-in-row-requires
 in-row-requires c κs =
     let f = c .before .before in
-    rw (f .frame-of .ensures, f .before .bottom .ensures) (start (f .before) .pre .0, frame-at _ _ _ _ _)
+    let s = start (f .before) in
+    let a = s .args in
+    let there = s .pre .1 .1 in
+    let n = part-count (a .dir .now) (a .arena .now) (a .k) there in
+    let some = f .before .before .if1 .left in
+    rw (f .frame-of .ensures, f .before .bottom .ensures, c .part-there .ensures)
+    (s .pre .0, (frame-at _ _ _ _ _, (sym n, omega (arith, there .rises, some))))
 
 returns-2 : tie.Need-returns-2
 unfolding slotAt
@@ -74,15 +87,17 @@ pub slot-at-spec : {M : Type 1} → statement M
 slot-at-spec =
     tie.close
     (tie.spec
-    mul-if1
-    shared-slice-read-if1
-    add-if1
-    mul-if1-2
-    shared-slice-read-if1-2
+    mul-from
+    shared-slice-read-from
+    add-to
+    mul-to
+    shared-slice-read-to
     returns
     bottom-requires
     frame-of-requires
     subdivision-of-requires
+    sub-n
+    cast-n
     add-part-there
     part-there-requires
     in-row-requires
