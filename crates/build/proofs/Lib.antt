@@ -7,5 +7,6 @@ pub mod Outcomes
 pub mod Tally
 pub mod Belonging
 pub mod RowTurns
+pub mod SortedRows
 pub mod Ordering
 pub mod Whole

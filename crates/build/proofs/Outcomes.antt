@@ -2,7 +2,8 @@
 use mathlib.Core.Path.{_≡_, refl, sym, ap, _∙_}
 use mathlib.Core.Bool.{true, false}
 use mathlib.Core.List.{List, [], _++_}
-use Prim.Native.Nat.{ℕ, _/_, _≤_}
+use Prim.Native.Nat.{ℕ, _*_, _/_, _%_, _≤_}
+use native.Mathlib.Omega.{arith}
 use lib.ListN.{length}
 use borrow.Author.Tests.{eq-eqb, ne-eqb}
 use Rattle.ruler.specs.declared.Ruler.{Ruler}
@@ -12,15 +13,16 @@ use Rattle.layout.specs.declared.Half.the-variants.{Originals, Replicas}
 use Rattle.layout.specs.declared.Refusal.the-variants.{RulerOutOfBounds, TableSize, DirectoryLength, NoRoom}
 use Rattle.layout.specs.declared.Outcome.{Outcome}
 use Rattle.layout.specs.declared.Outcome.the-variants.{Accepted, Refused}
-use Rattle.layout.specs.Words.{entryWords, rows, directoryLength, halfLength, directoryHalf, arena, lengthsOf, layout}
+use Rattle.layout.specs.Words.{entryWords, rows, entries, directoryLength, halfLength, directoryHalf, arena, lengthsOf, layout}
 use Rattle.layout.specs.Refusals.{isAccepted, refuse, outOfBounds, badSize, badDirectory, noRoom, firstBadRow, buildOutcome}
 use Rattle.layout.specs.Calls.{ifAccepted, index, after, buildOf}
-use Rattle.layout.proofs.Rows.{length-rows}
+use Rattle.layout.proofs.Rows.{length-rows, of-whole}
 use Rattle.layout.proofs.Chains.{of-badSize}
 use Rattle.layout.proofs.Tables.{Table, of-firstBadRow, of-build}
 use Rattle.layout.proofs.Links.{andThen, then-refused, is-accepted, leaves-found, leaves-made, rows-then}
 use Rattle.build.specs.HalfBuilt.{Tested, Fillable}
 use Rattle.build.specs.RowsJudged.{lengths}
+use Rattle.build.proofs.RowsJudged.{originals-are}
 
 -- ---- the chain
 
@@ -97,8 +99,8 @@ module _ (s : Scale) (table d o r : List ℕ) (a : Outcome) (says : a ≡ buildO
   left-old e = leaves-found a (index d o r) _ e says
 
   module _ (fine : isAccepted a ≡ true) where
-    pub accepted-table : Table s (rows table) (lengths (length d) (length o) (length r))
-    accepted-table = of-build s table (lengths (length d) (length o) (length r)) (sym says ∙ is-accepted a fine) .0
+    pub accepted-table : Table s (rows table) (lengths (length d) (length o) (length r)) × (length table % entryWords ≡ 0)
+    accepted-table = of-build s table (lengths (length d) (length o) (length r)) (sym says ∙ is-accepted a fine)
 
     pub left-new : (d′ o′ r′ : List ℕ) → d′ ≡ directoryHalf s Originals (rows table) ++ directoryHalf s Replicas (rows table)
         → o′ ≡ arena s Originals (rows table) (length o) → r′ ≡ arena s Replicas (rows table) (length r)
@@ -116,8 +118,15 @@ module _ (r : Ruler) (table d o p : List ℕ) (good : inBounds (r .numbers) ≡ 
   tested-table : Tested r table
   tested-table = record { good = good; few = w .few; rowsOk = w .rowsOk }
 
-  pub first-half : (long : ℕ) → long ≡ halfLength (scale r .m) → Fillable r table Originals long (length o)
-  first-half long e = record { tested = tested-table; whole = e; fits = w .room .for-originals }
+  pub first-half : (long room : ℕ) → long ≡ halfLength (scale r .m) → room ≡ length o → Fillable r table Originals long room
+  first-half long room e f = record { tested = tested-table; whole = e; fits = rw f (w .room .for-originals) }
 
   pub second-half : (long : ℕ) → long ≡ halfLength (scale r .m) → Fillable r table Replicas long (length p)
   second-half long e = record { tested = tested-table; whole = e; fits = w .room .for-replicas }
+
+  -- the originals' arena has room for the rows
+  pub rows-room : length table % entryWords ≡ 0 → length table ≤ length o
+  rows-room whole =
+      let as-long : entryWords * length (entries (scale r) Originals (rows table)) ≡ length table =
+      ap (λ (k : ℕ). entryWords * k) (originals-are r table tested-table) ∙ of-whole (length table) whole in
+      omega (arith, w .room .for-originals)

@@ -100,7 +100,7 @@ sum-end f table i h = ap (sumOver f) (drop-of-length-le (rows table) {i = i} (rw
 
 module _ (r : Ruler) (table : List ℕ) (w : Tested r table) where
   -- one original for each row
-  originals-are : length (entries (scale r) Originals (rows table)) ≡ length table / entryWords
+  pub originals-are : length (entries (scale r) Originals (rows table)) ≡ length table / entryWords
   originals-are =
       let f = fair-ruler r (w .good) in
       let ok = w .rowsOk in

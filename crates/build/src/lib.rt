@@ -1,8 +1,10 @@
 // The index of a table.
 mod halves;
+mod replicas;
 mod rows;
 
 use crate::halves::fill;
+use crate::replicas::fill_replicas;
 use crate::rows::lacks_room;
 use crate::rows::rows_outcome;
 use layout::ENTRY_WORDS;
@@ -51,7 +53,8 @@ fn judged(
     Outcome::Accepted
 }
 
-// Builds the index of a table on a ruler: both halves of the directory, each with its arena.
+// Builds the index of a table on a ruler: both halves of the directory, each with its arena. The replicas come first, as the originals'
+// arena is then free for a copy of the rows: it has room for them.
 fn build_on(
     ruler: Ruler,
     table: &[u32],
@@ -76,19 +79,13 @@ fn build_on(
     }
     let n = directory.len();
     let half = half_length(ruler.bottom());
+    fill_replicas(&mut directory[half..n], replicas, originals, ruler, table);
     fill(
         &mut directory[0..half],
         originals,
         ruler,
         table,
         Half::Originals,
-    );
-    fill(
-        &mut directory[half..n],
-        replicas,
-        ruler,
-        table,
-        Half::Replicas,
     );
     outcome
 }

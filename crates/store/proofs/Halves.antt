@@ -6,7 +6,7 @@ use native.Mathlib.Omega.{arith}
 use lib.ListN.{length, getD, take, drop, length-drop, take-append-drop, List·getD-append, length-append}
 use lib.Seq.{length-take-le, drop-at}
 use borrow.Rule.Slice.PartMut.{putMid}
-use Rattle.lists.proofs.Lent.{head-lent, tail-lent, both-back as parts-back}
+use Rattle.lists.proofs.Lent.{head-lent, head-back, tail-lent, tail-back, both-back as parts-back}
 use Rattle.layout.specs.Words.{halfLength, directoryLength}
 use Rattle.layout.proofs.Numbers.{halves-length}
 use Rattle.store.specs.Halves.{total}
@@ -52,11 +52,23 @@ module _ (d : List ℕ) (h n : ℕ) (both : n ≡ h + h) (long : length d ≡ n)
         let e : h - 0 ≡ h = omega arith in
         ap (take (n - h)) (drop-at f (drop (h - 0) d) h size) ∙ ap (λ (k : ℕ). take (n - h) (drop k d)) e ∙ second-lent
 
-    pub next-long : length (take (n - h) (drop h back)) ≡ h
-    next-long = ap length second-next ∙ length-drop h d ∙ omega arith
-
     pub both-back : (g : List ℕ) → putMid h (n - h) back g ≡ f ++ g
     both-back g =
         let rest = drop (h - 0) d in
         let e : n - h ≡ length (f ++ rest) - h = omega (arith, length-append f rest, length-drop (h - 0) d) in
         rw e (parts-back f rest g h size)
+
+  -- the second half came back first, as g: the first is lent with as many words, and both come back
+  module _ (g : List ℕ) (size : length g ≡ h) where
+    front : length (take h d) ≡ h
+    front = length-take-le h d (omega arith)
+
+    came : putMid h (n - h) d g ≡ take h d ++ g
+    came = let e : n - h ≡ length d - h = omega arith in rw e (tail-back d h g)
+
+    pub first-next : length (take (h - 0) (putMid h (n - h) d g)) ≡ h
+    first-next = length-take-le (h - 0) (putMid h (n - h) d g) (omega (arith, ap length came, length-append (take h d) g, front)) ∙ omega arith
+
+    pub second-first : (f : List ℕ) → putMid 0 (h - 0) (putMid h (n - h) d g) f ≡ f ++ g
+    second-first f =
+        head-back (putMid h (n - h) d g) h f ∙ ap (λ (l : List ℕ). f ++ drop h l) came ∙ ap (λ (l : List ℕ). f ++ l) (drop-at (take h d) g h front)
