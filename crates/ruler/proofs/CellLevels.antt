@@ -1,7 +1,7 @@
 -- The cell of a level in which a deeper cell lies, for any m: a step towards level 0 halves it.
 use mathlib.Core.Path.{_≡_, sym, ap, _∙_}
 use Prim.Native.Nat.{ℕ, suc, _+_, _-_, _*_, _/_, _^_, _≤_, _<_}
-use native.Mathlib.Nat.{sub-self, div-one, le-div-iff-mul-le, div-lt-iff-lt-mul}
+use native.Mathlib.Nat.{mul-add-div-right, sub-self, div-one, le-div-iff-mul-le, div-lt-iff-lt-mul}
 use native.Mathlib.Omega.{arith}
 use lib.Pow.{pow-pos, pow-add, shr-shr, shr-mono, shr-lt}
 use Rattle.ruler.specs.Ruler.{cellUp}
@@ -43,3 +43,8 @@ up-at m L x i h l =
     let from = le-div-iff-mul-le {k = 2 ^ (m - L)} {x = i} {y = x} (pow-pos (m - L)) .1 h in
     let to = div-lt-iff-lt-mul {k = 2 ^ (m - L)} {x = x} {y = i + 1} (pow-pos (m - L)) .1 l in
     omega arith
+
+-- all level-m cells and some more lie in all level-L cells and so many more
+pub up-all : (m L c : ℕ) → L ≤ m → (2 ^ m + c) / 2 ^ (m - L) ≡ 2 ^ L + cellUp m L c
+unfolding cellUp
+up-all m L c h = ap (λ (n : ℕ). (n + c) / 2 ^ (m - L)) (sym (all-cells m L h)) ∙ mul-add-div-right (pow-pos (m - L)) (2 ^ L) c

@@ -168,6 +168,14 @@ impl Cell {
     {
         power(self.0) - 1 + self.1
     }
+
+    // The same of the cell of a level above in which it lies, by one shift.
+    pub fn rank_at(self, level: u32) -> u32
+        requires { ⌜ (level ≤ self .0) × (self .0 ≤ deepest) × (self .1 < 2 ^ self .0) ⌝ }
+        ensures { λ r. ⌜ r ≡ cellRank (cellIn level self) ⌝ }
+    {
+        ((power(self.0) + self.1) >> (self.0 - level)) - 1
+    }
 }
 
 // What a caller names a ruler by: its numbers, not yet judged.

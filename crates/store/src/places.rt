@@ -4,8 +4,8 @@ use ruler::Cell;
 use ruler::Ruler;
 use trip::Trip;
 ghost use mathlib.Core.Path.{_≡_};
-ghost use mathlib.Core.Bool.{true};
-ghost use Prim.Native.Nat.{_+_, _^_, _<_, _≤_};
+ghost use mathlib.Core.Bool.{true, cond};
+ghost use Prim.Native.Nat.{_+_, _-_, _*_, _^_, _<_, _≤_};
 ghost use lib.ListN.{length};
 ghost use Rattle.ruler.specs.Ruler.{deepest, inBounds, scale};
 ghost use Rattle.layout.specs.declared.Half.the-variants.{Replicas};
@@ -34,16 +34,24 @@ fn is_of(half: Half, original: bool) -> bool
     }
 }
 
+// The "in" slot or "aft" slot of a partition before which there are so many.
+fn slot_of(rank: u32, aft: bool) -> u32
+    requires { ⌜ rank < 2 ^ 31 - 1 ⌝ }
+    ensures { λ r. ⌜ r ≡ 2 * rank + cond aft 1 0 ⌝ }
+{
+    let first = 2 * rank;
+    if aft {
+        return first + 1;
+    }
+    first
+}
+
 // The number of a partition's "in" slot or "aft" slot.
 pub fn slot_number(partition: Cell, aft: bool) -> u32
     requires { ⌜ (partition .0 ≤ deepest) × (partition .1 ≤ 2 ^ partition .0) ⌝ }
     ensures { λ r. ⌜ r ≡ slotNumber (partition .0) (partition .1) aft ⌝ }
 {
-    let first = 2 * partition.rank();
-    if aft {
-        return first + 1;
-    }
-    first
+    slot_of(partition.rank(), aft)
 }
 
 // Writes the slot of a partition at place n, if the test passes and a trip whose cells of that level are first .. last has its entry there in
@@ -142,8 +150,8 @@ pub fn home(ruler: Ruler, t: Trip) -> u32
     let a = ruler.bottom_cell(t.start);
     let b = ruler.bottom_cell(t.end);
     let level = home_level(a, b);
-    let partition = a.at_level(level);
-    slot_number(partition, !b.at_level(level).same(partition))
+    let ends = b.at_level(level).same(a.at_level(level));
+    slot_of(a.rank_at(level), !ends)
 }
 
 // The slots of a trip's replicas, by the cells of its times.

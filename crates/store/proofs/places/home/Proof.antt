@@ -1,15 +1,42 @@
 -- The partition of the first cell on the home level, and whether the trip ends there.
-use mathlib.Core.Path.{refl}
-use Prim.Native.Nat.{_≤_}
-use Rattle.ruler.specs.Ruler.{scale}
+use mathlib.Core.Path.{_≡_, refl}
+use mathlib.Core.Bool.{Bool, cond, not}
+use Prim.Native.Nat.{ℕ, _+_, _*_, _≤_}
+use lib.Pow.{pow-mono}
+use Rattle.ruler.specs.declared.Cell.{Cell}
+use Rattle.ruler.specs.Ruler.{Scale, deepest, scale, bottomCell, sameCell, cellIn, cellRank}
+use Rattle.trip.specs.declared.Trip.{Trip}
 use Rattle.layout.specs.Stored.{isIn}
-use Rattle.layout.proofs.RulerCells.{fair-ruler, deep-ruler, last-cell}
-use Rattle.store.specs.Homes.{home, homeAt}
+use Rattle.layout.specs.Words.{slotNumber, partitionNumber}
+use Rattle.layout.proofs.RulerCells.{fair-ruler, deep-ruler, first-cell, last-cell}
+use Rattle.store.specs.Homes.{homeLevel, home, homeAt}
 use Rattle.store.proofs.Homes.{level-deep, place-there}
 use native.Mathlib.Omega.{arith}
 use borrow.Author.Needs.{needs}
 use Rattle.store.proofs.places.home.Statement.{statement}
 use Rattle.store.proofs.places.home.Tie as tie
+
+-- the places that facts are taken from
+abbrev level-before-rank : tie.After-rank-at → tie.After-home-level
+level-before-rank c = c .before .before .before .before
+
+-- the level that was found is one of the ruler's
+level-is : (c : tie.After-home-level)
+    → let g = c .before .before .before .args in
+    c .home-level .result ≡ homeLevel (scale (g .ruler) .m) (scale (g .ruler) .cell (g .t .start)) (scale (g .ruler) .cell (g .t .end)) (scale (g .ruler) .m)
+level-is c = rw (c .before .bottom-cell2 .ensures, c .before .before .bottom-cell .ensures) at (c .home-level .ensures)
+
+deep : (c : tie.After-home-level) → let r = c .before .before .before .args .ruler in (c .home-level .result ≤ scale r .m) × (scale r .m ≤ deepest)
+deep c =
+    let g = c .before .before .before in
+    (rw (level-is c) (level-deep (g .args .ruler) (g .args .t) (g .pre .0) (g .pre .1)), deep-ruler (g .args .ruler) (g .pre .0))
+
+-- its slot, from what the code finds in turn
+slot-is : (s : Scale) (t : Trip) {a b p q : Cell} {L rank r : ℕ} {ends : Bool} → a ≡ bottomCell s (t .start) → b ≡ bottomCell s (t .end)
+    → L ≡ homeLevel (s .m) (s .cell (t .start)) (s .cell (t .end)) (s .m) → q ≡ cellIn L b → p ≡ cellIn L a → ends ≡ sameCell q p
+    → rank ≡ cellRank (cellIn L a) → r ≡ 2 * rank + cond (not ends) 1 0 → r ≡ home s t
+unfolding home homeAt isIn slotNumber partitionNumber
+slot-is s t a b l q p e k r = rw (r, e, k, q, p, a, b, l)
 
 bottom-cell-requires : tie.Need-bottom-cell-requires
 bottom-cell-requires c κs = search needs
@@ -23,46 +50,41 @@ home-level-requires c κs =
     let r = g .args .ruler in
     let t = g .args .t in
     let ordered = fair-ruler r (g .pre .0) .never-falls (t .start) (t .end) (g .pre .1 .ordered) in
-    rw (c .bottom-cell2 .ensures, c .before .bottom-cell .ensures)
-    (deep-ruler r (g .pre .0), refl, ordered, last-cell r (g .pre .0) t (g .pre .1))
+    rw (c .bottom-cell2 .ensures, c .before .bottom-cell .ensures) (deep-ruler r (g .pre .0), refl, ordered, last-cell r (g .pre .0) t (g .pre .1))
 
 at-level-requires : tie.Need-at-level-requires
-at-level-requires c κs =
-    let g = c .before .before .before in
-    let level = rw (c .before .bottom-cell2 .ensures, c .before .before .bottom-cell .ensures) at (c .home-level .ensures) in
-    rw (level, c .before .before .bottom-cell .ensures)
-    (level-deep (g .args .ruler) (g .args .t) (g .pre .0) (g .pre .1), deep-ruler (g .args .ruler) (g .pre .0))
+at-level-requires c κs = rw (c .before .bottom-cell2 .ensures) (deep c)
 
 at-level-requires-2 : tie.Need-at-level-requires-2
-at-level-requires-2 c κs =
-    let k = c .before in
-    let g = k .before .before .before in
-    let level = rw (k .before .bottom-cell2 .ensures, k .before .before .bottom-cell .ensures) at (k .home-level .ensures) in
-    rw (level, k .before .bottom-cell2 .ensures)
-    (level-deep (g .args .ruler) (g .args .t) (g .pre .0) (g .pre .1), deep-ruler (g .args .ruler) (g .pre .0))
+at-level-requires-2 c κs = rw (c .before .before .before .bottom-cell .ensures) (deep (c .before))
 
 same-requires : tie.Need-same-requires
 same-requires c κs = rw (c .at-level2 .ensures, c .before .at-level .ensures) refl
 
-slot-number-requires : tie.Need-slot-number-requires
-slot-number-requires c κs =
+rank-at-requires : tie.Need-rank-at-requires
+rank-at-requires c κs =
     let k = c .before .before .before in
     let g = k .before .before .before in
-    let r = g .args .ruler in
-    let level = rw (k .before .bottom-cell2 .ensures, k .before .before .bottom-cell .ensures) at (k .home-level .ensures) in
-    let h : k .home-level .result ≤ scale r .m = rw level (level-deep r (g .args .t) (g .pre .0) (g .pre .1)) in
-    let there = place-there r (g .args .t) (g .pre .0) (g .pre .1) _ h in
-    rw (c .before .before .at-level .ensures, k .before .before .bottom-cell .ensures) (omega (arith, deep-ruler r (g .pre .0)), omega (arith, there))
+    let d = deep k in
+    rw (k .before .before .bottom-cell .ensures) (d .0, d .1, first-cell (g .args .ruler) (g .pre .0) (g .args .t) (g .pre .1))
+
+slot-of-requires : tie.Need-slot-of-requires
+slot-of-requires c κs =
+    let k = level-before-rank c in
+    let g = k .before .before .before in
+    let d = deep k in
+    let there = place-there (g .args .ruler) (g .args .t) (g .pre .0) (g .pre .1) (k .home-level .result) (d .0) in
+    let small : k .home-level .result ≤ deepest = omega (arith, d) in
+    rw (c .rank-at .ensures, k .before .before .bottom-cell .ensures) (omega (arith, there, pow-mono small))
 
 returns : tie.Need-returns
-unfolding home homeAt isIn
 returns c =
-    let k = c .before .before .before .before in
+    let k = level-before-rank (c .before) in
     let b = k .before .bottom-cell2 .ensures in
     let a = k .before .before .bottom-cell .ensures in
-    let level = rw (b, a) at (k .home-level .ensures) in
-    let p = c .before .before .before .at-level .ensures in
-    rw (c .slot-number .ensures, c .before .same .ensures, c .before .before .at-level2 .ensures, p, b, a, level)
+    let last = c .before .before .before .at-level2 .ensures in
+    let first = c .before .before .before .before .at-level .ensures in
+    slot-is _ _ a b (level-is k) first last (c .before .before .same .ensures) (c .before .rank-at .ensures) (c .slot-of .ensures)
 
 pub home-spec : {M : Type 1} → statement M
 home-spec =
@@ -74,5 +96,6 @@ home-spec =
     at-level-requires
     at-level-requires-2
     same-requires
-    slot-number-requires
+    rank-at-requires
+    slot-of-requires
     returns)
