@@ -41,7 +41,8 @@ impl Cells {
     }
 }
 
-// Where the entries of a half start that this partition has.
+// Where a partition's entries of this half start: originals in its first cell, replicas before it. The parent of an odd partition begins
+// before it, and would hold a trip that starts no later than the parent does.
 fn starts_of(m: u32, half: Half, partition: Cell) -> Cells
     requires { ⌜ (m ≤ deepest) × (partition .0 ≤ m) × (partition .1 < 2 ^ partition .0) ⌝ }
     ensures { λ r. ⌜ r ≡ startsOf m half (partition .0) (partition .1) ⌝ }
@@ -67,7 +68,8 @@ fn starts_of(m: u32, half: Half, partition: Cell) -> Cells
     }
 }
 
-// Where its "in" or "aft" entries end.
+// Where its "in" or "aft" entries end: in its last cell, or after it. The parent of an even partition ends after it, and would hold a trip that
+// ends no earlier than the parent does.
 fn ends_of(m: u32, aft: bool, partition: Cell) -> Cells
     requires { ⌜ (m ≤ deepest) × (partition .0 ≤ m) × (partition .1 < 2 ^ partition .0) ⌝ }
     ensures { λ r. ⌜ r ≡ endsOf m aft (partition .0) (partition .1) ⌝ }
@@ -92,7 +94,7 @@ fn ends_of(m: u32, aft: bool, partition: Cell) -> Cells
     }
 }
 
-// The level-m cells in which the trips of a slot start and end: found once for a slot, so that a trip is tested by its own two cells.
+// The level-m cells in which the trips of a slot start and end. It is found once for a slot; a trip is then tested by its own two cells.
 pub struct Frame {
     starts: Cells,
     ends: Cells,
