@@ -69,7 +69,10 @@ fn visited(
     requires { ⌜ (first .0 ≡ partition .0) × (last .0 ≡ partition .0) ⌝ }
     ensures { λ r. ⌜ Wrote (visit half test (partition .0) (partition .1) (first .1) (last .1)) (now (spots .entry)) n r (now (spots .exit)) ⌝ }
 {
-    if test & is_of(half, first.same(partition)) {
+    if !test {
+        return n;
+    }
+    if is_of(half, first.same(partition)) {
         spots[n] = slot_number(partition, !last.same(partition));
         return n + 1;
     }
@@ -154,8 +157,8 @@ pub fn home(ruler: Ruler, t: Trip) -> u32
     slot_of(a.rank_at(level), !ends)
 }
 
-// The slots of a trip's replicas, by the cells of its times.
-fn replica_slots(ruler: Ruler, t: Trip, spots: &mut [u32]) -> usize
+// Writes the slots of a trip's replicas, by the cells of its times, and says how many.
+pub fn replica_slots(ruler: Ruler, t: Trip, spots: &mut [u32]) -> usize
     requires { ⌜ inBounds (ruler .numbers) ≡ true ⌝ }
     requires { ⌜ Fits (scale ruler) t × (mostSlots ≤ length (now spots)) ⌝ }
     ensures { λ r.

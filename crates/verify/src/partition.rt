@@ -8,18 +8,8 @@ ghost use mathlib.Core.Path.{_≡_};
 ghost use mathlib.Core.Bool.{true};
 ghost use Prim.Native.Nat.{_^_, _<_, _≤_};
 ghost use Rattle.ruler.specs.Ruler.{deepest, inBounds, scale};
-ghost use Rattle.layout.specs.Stored.{within};
 ghost use Rattle.layout.specs.Refusals.{fits};
 ghost use Rattle.verify.specs.Frames.{hasCell, AtLevel, startsOf, endsOf, frameOf, FrameAt, standsIn};
-
-// Whether all cells of a partition lie in a..b.
-pub fn lies_in(partition: Cell, a: Cell, b: Cell) -> bool
-    requires { ⌜ (a .0 ≤ deepest) × (b .0 ≡ a .0) × (partition .0 ≤ a .0) × (partition .1 < 2 ^ partition .0) ⌝ }
-    ensures { λ r. ⌜ r ≡ within (a .0) (partition .0) (partition .1) (a .1) (b .1) ⌝ }
-{
-    let m = a.level();
-    a.no_later(partition.first_at(m)) & partition.last_at(m).no_later(b)
-}
 
 // Some cells of one level: from one on, up to another that is not of them.
 pub struct Cells {

@@ -1,7 +1,6 @@
 -- By the order that is named; where it is of no time, or there are few entries, nothing is cut.
 use borrow.Author.Tests.{le-leb, lt-leb}
 use Rattle.walk.specs.Cut.{cutOf}
-use native.Mathlib.Omega.{arith}
 use borrow.Author.Needs.{needs}
 use Rattle.walk.proofs.cut.cut.Statement.{statement}
 use Rattle.walk.proofs.cut.cut.Tie as tie
