@@ -5,3 +5,4 @@ pub mod RulerMade
 pub mod Shift
 pub mod Small
 pub mod Zeros
+pub mod Pieces

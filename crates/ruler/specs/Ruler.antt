@@ -1,6 +1,6 @@
 -- Document 01, "Ruler and cells", as definitions. Every test is a Bool and computes.
 use mathlib.Core.Bool.{Bool, cond, _&&_}
-use Prim.Native.Nat.{ℕ, _+_, _-_, _*_, _/_, _%_, _^_}
+use Prim.Native.Nat.{ℕ, zero, suc, _+_, _-_, _*_, _/_, _%_, _^_}
 use lib.Dec.{leb, ltb, eqb}
 use lib.Count.{trailingZeros}
 use Rattle.ruler.specs.declared.Time.{Time}
@@ -125,6 +125,12 @@ begins c L = eqb (c .1 % 2 ^ (c .0 - L)) 0
 -- how many levels up it still is the first of the cells that lie in one: all levels where its number is 0, else as many as zeros end that number
 abbrev pub levelsBegun : Cell → ℕ
 levelsBegun c = trailingZeros (c .0) (c .1)
+
+-- how many cells of this level and those above, each as large as can be, make up the cells from x on, up to y: of a level the first where it is the
+-- second of two, and the last where it is the first of two, if any are left; for n levels
+unfoldable pub pieces : (n x y : ℕ) → ℕ
+pieces zero x y = zero
+pieces (suc n) x y = cond (leb y x) 0 (x % 2 + y % 2 + pieces n ((x + 1) / 2) (y / 2))
 
 -- as many cells as come before it, level after level from level 0 on
 abbrev pub cellRank : Cell → ℕ

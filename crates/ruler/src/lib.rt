@@ -4,7 +4,7 @@ ghost use mathlib.Core.Bool.{true};
 ghost use Prim.Native.Nat.{_+_, _-_, _^_, _<_, _≤_};
 ghost use Rattle.ruler.specs.Ruler.{timeAt, before, sameTime, noLater, nextTime, widest, deepest, mostTrips, inBounds, judge, scale, bottomOf};
 ghost use Rattle.ruler.specs.Ruler.{cellOf, cellAt, bottomCell, sameCell, noLaterCell, nextCell, cellAbove, cellIn, parity, firstOfTwo};
-ghost use Rattle.ruler.specs.Ruler.{firstIn, lastIn, begins, levelsBegun, cellRank};
+ghost use Rattle.ruler.specs.Ruler.{firstIn, lastIn, begins, levelsBegun, pieces, cellRank};
 
 // A raw time: whole seconds on the service day, which may pass 24:00:00. Its field is private: outside this crate a time can only be given
 // to the functions below, of which none but `Ruler::cell` and `Ruler::bottom_cell` has to do with cells. Its number leaves it by `seconds`,
@@ -50,6 +50,9 @@ impl Time {
         Time(self.0 + 1)
     }
 }
+
+// Two numbers below it stand in one word.
+const HALF_WORD: u32 = 65536;
 
 // A cell at a level: the level, and the cell's number there. A partition is the cell of its level that it covers. A range of cells that goes
 // to a level's last ends at the cell one past it. The fields are private, and cells are compared at one level only. A cell's number leaves it
@@ -159,6 +162,21 @@ impl Cell {
         ensures { λ r. ⌜ (2 ^ r ≤ last .1 - self .1 + 1) × (last .1 - self .1 + 1 < 2 ^ (r + 1)) ⌝ }
     {
         31 - u32::leading_zeros(last.1 - self.1 + 1)
+    }
+
+    // How many cells of its level and those above, each as large as can be, make up those from it to a later one. Below the highest digit at which the
+    // cell before it and the one after the last differ, each zero of the one and each digit set of the other is one: both are counted in one word.
+    pub fn pieces_to(self, last: Cell) -> u32
+        requires { ⌜ (self .0 ≤ deepest) × (self .1 ≤ last .1) × (last .1 < 2 ^ self .0) ⌝ }
+        ensures { λ r. ⌜ r ≡ pieces (self .0 + 1) (self .1) (last .1 + 1) ⌝ }
+    {
+        let after = last.1 + 1;
+        if self.1 == 0 {
+            return u32::count_ones(after);
+        }
+        let before = self.1 - 1;
+        let share = power(31 - u32::leading_zeros(before ^ after));
+        u32::count_ones((share - 1 - before % share) * HALF_WORD + after % share)
     }
 
     // As many cells as come before it, level after level from level 0 on.

@@ -1,18 +1,22 @@
 -- The walk up the levels that counts the partitions of a trip: at level L the partitions that lie in a..b are from .. to - 1, and those
 -- that hold the trip are `from` where it is odd and to - 1 where `to` is odd.
-use mathlib.Core.Path.{_≡_, refl}
+use mathlib.Core.Path.{_≡_, refl, ap}
 use mathlib.Core.Bool.{Bool, true, false, not, _&&_}
-use Prim.Native.Nat.{ℕ, zero, suc, _+_, _-_, _*_, _/_, _^_, _≤_, _<_}
+use Prim.Native.Nat.{ℕ, zero, suc, _+_, _-_, _*_, _/_, _%_, _^_, _≤_, _<_}
 use native.Mathlib.Nat.{two-pow-succ, sub-self, pow-suc}
 use native.Mathlib.Omega.{arith}
 use native.Mathlib.Decide.{decLt}
 use lib.Dec.{T}
+use borrow.Author.Tests.{le-leb, lt-leb}
 use Rattle.lists.specs.Lists.{oneMore, count}
 use Rattle.lists.proofs.Sums.{pairOf, count-pairs, one-more}
 use Rattle.lists.proofs.Tests.{of-T}
+use Rattle.ruler.specs.Ruler.{Scale, pieces}
+use Rattle.trip.specs.declared.Trip.{Trip}
 use Rattle.layout.specs.Stored.{within, holds}
+use Rattle.layout.specs.Words.{partitionsHolding}
 use Rattle.layout.proofs.Partitions.{of-within, to-within, within-child}
-use Rattle.layout.proofs.ByLevel.{heldAbove, none-above, one-level-more}
+use Rattle.layout.proofs.ByLevel.{heldAbove, none-above, one-level-more, held-in-all}
 
 -- how many of 0 .. n - 1 lie in from .. to - 1
 module _ (g : ℕ → Bool) (from to : ℕ) (into : (i : ℕ) → T (g i) → (from ≤ i) × (i < to)) (outof : (i : ℕ) → from ≤ i → i < to → T (g i)) where
@@ -147,3 +151,30 @@ module _ (m a b : ℕ) where
       let d : suc L - 1 ≡ L = omega arith in
       let up = rw d at (walk-turn (suc L) from to held all 0 (omega arith) w (omega arith)) in
       omega (arith, walk-done L ((from + 1) / 2) (to / 2) (held + 0) all up (omega arith))
+
+  -- together they are the pieces of what is left
+  pub walk-pieces : (L from to held all : ℕ) → Walk L from to held all → held + pieces (suc L) from to ≡ all
+  unfolding pieces
+  walk-pieces zero from to held all w = go (decLt from to)
+    where
+      go : Dec (from < to) → held + pieces 1 from to ≡ all
+      go (yes l) = rw (lt-leb to from l) (omega (arith, walk-end 0 from to held all (from % 2 + to % 2) refl w (omega (arith, w .high))))
+      go (no l) = rw (le-leb to from (omega arith)) (omega (arith, walk-done 0 from to held all w (omega arith)))
+  walk-pieces (suc L) from to held all w = go (decLt from to) (walk-pieces L ((from + 1) / 2) (to / 2) (held + (from % 2 + to % 2)) all)
+    where
+      go : Dec (from < to) → (Walk L ((from + 1) / 2) (to / 2) (held + (from % 2 + to % 2)) all
+          → held + (from % 2 + to % 2) + pieces (suc L) ((from + 1) / 2) (to / 2) ≡ all) → held + pieces (suc (suc L)) from to ≡ all
+      go (yes l) ih =
+          let d : suc L - 1 ≡ L = omega arith in
+          let up = rw d at (walk-turn (suc L) from to held all (from % 2 + to % 2) (omega arith) w (omega arith)) in
+          rw (lt-leb to from l) (omega (arith, ih up))
+      go (no l) ih = rw (le-leb to from (omega arith)) (omega (arith, walk-done (suc L) from to held all w (omega arith)))
+
+pub pieces-held : (s : Scale) (t : Trip) → s .cell (t .end) < 2 ^ s .m → pieces (s .m + 1) (s .cell (t .start)) (s .cell (t .end) + 1) ≡ partitionsHolding s t
+pieces-held s t h =
+    let m = s .m in
+    let a = s .cell (t .start) in
+    let b = s .cell (t .end) in
+    let all = walk-pieces m a b m a (b + 1) 0 (heldAbove m a b (suc m)) (walk-start m a b h) in
+    let next : m + 1 ≡ suc m = omega arith in
+    omega (arith, ap (λ (n : ℕ). pieces n a (b + 1)) next, all, held-in-all s t)
