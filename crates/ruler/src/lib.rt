@@ -51,12 +51,16 @@ impl Time {
     }
 }
 
+// The place of a word's highest digit.
+const TOP_DIGIT: u32 = 31;
+
 // Two numbers below it stand in one word.
 const HALF_WORD: u32 = 65536;
 
 // A cell at a level: the level, and the cell's number there. A partition is the cell of its level that it covers. A range of cells that goes
 // to a level's last ends at the cell one past it. The fields are private, and cells are compared at one level only. A cell's number leaves it
-// by `rank`, which is called only where a slot's number is made (store/src/places.rt, plan/src/stretches.rt); `parity` gives its last bit.
+// by `rank` and `rank_at`, which are called only where a slot's number is made (store/src/places.rt, plan/src/stretches.rt); `parity` gives its last
+// bit. What is counted of its digits is a number of levels or of cells.
 pub struct Cell(u32, u32);
 
 impl Cell {
@@ -161,7 +165,7 @@ impl Cell {
         requires { ⌜ (self .0 ≤ deepest) × (self .1 ≤ last .1) × (last .1 < 2 ^ self .0) ⌝ }
         ensures { λ r. ⌜ (2 ^ r ≤ last .1 - self .1 + 1) × (last .1 - self .1 + 1 < 2 ^ (r + 1)) ⌝ }
     {
-        31 - u32::leading_zeros(last.1 - self.1 + 1)
+        TOP_DIGIT - u32::leading_zeros(last.1 - self.1 + 1)
     }
 
     // How many cells of its level and those above, each as large as can be, make up those from it to a later one. Below the highest digit at which the
@@ -175,7 +179,7 @@ impl Cell {
             return u32::count_ones(after);
         }
         let before = self.1 - 1;
-        let share = power(31 - u32::leading_zeros(before ^ after));
+        let share = power(TOP_DIGIT - u32::leading_zeros(before ^ after));
         u32::count_ones((share - 1 - before % share) * HALF_WORD + after % share)
     }
 

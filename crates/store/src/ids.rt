@@ -19,7 +19,7 @@ ghost use Rattle.store.specs.Marks.{wordBits, markWords, markOf, marked,
 // How many ids are told apart at once.
 const ROOM: usize = 512;
 
-// How many ids a class has where they fall evenly: so far below the room that chance does not fill it.
+// How many ids a class has where they fall evenly: so far below the room that chance seldom fills it.
 const EVEN: usize = 456;
 
 // What an id is multiplied by: the product's low word is spread over all words, also of ids in even steps.
