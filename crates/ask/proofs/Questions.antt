@@ -13,8 +13,8 @@ use Rattle.lists.proofs.Sorting.{ascending-same}
 use Rattle.lists.proofs.Kept.{keep-ext}
 use Rattle.ruler.specs.declared.Time.{Time}
 use Rattle.ruler.specs.declared.Ruler.{Ruler}
-use Rattle.ruler.specs.Ruler.{Scale, mostTrips, inBounds, scale}
-use Rattle.ruler.proofs.Fair.{Fair, scale-m, fair}
+use Rattle.ruler.specs.Ruler.{Scale, mostTrips, Made, scale}
+use Rattle.ruler.proofs.Fair.{Fair}
 use Rattle.trip.specs.declared.Trip.{Trip}
 use Rattle.trip.specs.declared.Window.{Window}
 use Rattle.trip.specs.declared.Question.{Question}
@@ -22,6 +22,7 @@ use Rattle.trip.specs.Relationships.{related}
 use Rattle.layout.specs.Words.{partitions, Index, lengthsOf, entries}
 use Rattle.layout.specs.Answers.{matches, answer}
 use Rattle.layout.specs.Refusals.{tableOf, isIndex, OnRuler}
+use Rattle.layout.proofs.RulerCells.{fair-ruler, deep-ruler}
 use Rattle.layout.proofs.Tables.{Table}
 use Rattle.layout.proofs.Indexes.{of-isIndex, back-length}
 use Rattle.layout.proofs.SortedLists.{ids-differ, ids-in}
@@ -39,7 +40,7 @@ use Rattle.walk.specs.Levels.{LevelsThere, walkMatches}
 use Rattle.walk.proofs.Levels.{Ready, levels-there, walk-matches}
 use Rattle.walk.proofs.Written.{ids-length}
 
-module _ (ruler : Ruler) (ok : inBounds (ruler .numbers) ≡ true) (x : Index) (is : isIndex (scale ruler) x ≡ true) (q : Question)
+module _ (ruler : Ruler) (ok : Made ruler) (x : Index) (is : isIndex (scale ruler) x ≡ true) (q : Question)
     (on : OnRuler (scale ruler) (q .window .start) (q .window .end)) where
   abbrev s : Scale
   s = scale ruler
@@ -57,7 +58,7 @@ module _ (ruler : Ruler) (ok : inBounds (ruler .numbers) ≡ true) (x : Index) (
   p = planFor s (q .relationship) (q .window)
 
   falls : Fair s
-  falls = fair (ruler .numbers) (to-T ok)
+  falls = fair-ruler ruler ok
 
   table : Table s ts (lengthsOf x)
   table = of-isIndex s x (to-T is) .table
@@ -81,7 +82,7 @@ module _ (ruler : Ruler) (ok : inBounds (ruler .numbers) ≡ true) (x : Index) (
   ready : Ready s test p x
   ready = rw (plan-for s (q .relationship) w) (record {
     indexed = is;
-    ranged = in-range s (scale-m (ruler .numbers) (to-T ok)) (q .relationship) (s .cell (w .start)) (s .cell (w .end)) order
+    ranged = in-range s (deep-ruler ruler ok) (q .relationship) (s .cell (w .start)) (s .cell (w .end)) order
         (falls .one-of (w .end) (on .ends));
     sure = λ e t m low high. rw (agrees t m) (quick-right s falls (q .relationship) w e t low high);
   })

@@ -8,8 +8,7 @@ use trip::Named;
 use trip::Question;
 use trip::relationship_of;
 ghost use mathlib.Core.Path.{_≡_};
-ghost use mathlib.Core.Bool.{true};
-ghost use Rattle.ruler.specs.Ruler.{inBounds, scale};
+ghost use Rattle.ruler.specs.Ruler.{Made, scale};
 ghost use Rattle.ask.specs.QuestionJudged.{judgedOf};
 
 pub enum Judgement {
@@ -19,7 +18,7 @@ pub enum Judgement {
 
 // 9, 4 and 5, in this order.
 pub fn judge(ruler: Ruler, asking: Asking) -> Judgement
-    requires { ⌜ inBounds (ruler .numbers) ≡ true ⌝ }
+    requires { ⌜ Made ruler ⌝ }
     ensures { λ r. ⌜ r ≡ judgedOf (scale ruler) asking ⌝ }
 {
     let Named::As(relationship) = relationship_of(asking.code) else {

@@ -22,7 +22,7 @@ ghost use mathlib.Core.Path.{_≡_};
 ghost use mathlib.Core.Bool.{true};
 ghost use Prim.Native.Nat.{_≤_};
 ghost use lib.ListN.{length};
-ghost use Rattle.ruler.specs.Ruler.{mostTrips, inBounds, scaleOf, scale};
+ghost use Rattle.ruler.specs.Ruler.{mostTrips, Made, scaleOf, scale};
 ghost use Rattle.layout.specs.Answers.{answer};
 ghost use Rattle.layout.specs.Refusals.{OnRuler, tableOf, isIndex, roomTest};
 ghost use Rattle.layout.specs.Calls.{index, asked, askOf};
@@ -76,7 +76,7 @@ fn listed<'a>(
     question: Question,
     answers: &mut [u32],
 ) -> Answered
-    requires { ⌜ inBounds (ruler .numbers) ≡ true ⌝ }
+    requires { ⌜ Made ruler ⌝ }
     requires { ⌜ isIndex (scale ruler) (index (now directory) (now originals) (now replicas)) ≡ true ⌝ }
     requires { ⌜ OnRuler (scale ruler) (question .window .start) (question .window .end) ⌝ }
     ensures { λ r.
@@ -128,7 +128,7 @@ fn answer_to<'a>(
     asking: Asking,
     answers: &mut [u32],
 ) -> Answered
-    requires { ⌜ inBounds (ruler .numbers) ≡ true ⌝ }
+    requires { ⌜ Made ruler ⌝ }
     requires { ⌜ isIndex (scale ruler) (index (now directory) (now originals) (now replicas)) ≡ true ⌝ }
     ensures { λ r.
         ⌜ asked (r .outcome) (r .count) (now (answers .exit))

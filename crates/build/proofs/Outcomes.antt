@@ -7,8 +7,7 @@ use native.Mathlib.Omega.{arith}
 use lib.ListN.{length}
 use borrow.Author.Tests.{eq-eqb, ne-eqb}
 use Rattle.ruler.specs.declared.Ruler.{Ruler}
-use Rattle.ruler.specs.Ruler.{Scale, mostTrips, inBounds, scale}
-use Rattle.ruler.proofs.Fair.{scale-good}
+use Rattle.ruler.specs.Ruler.{Scale, mostTrips, Made, scale}
 use Rattle.layout.specs.declared.Half.the-variants.{Originals, Replicas}
 use Rattle.layout.specs.declared.Refusal.the-variants.{RulerOutOfBounds, TableSize, DirectoryLength, NoRoom}
 use Rattle.layout.specs.declared.Outcome.{Outcome}
@@ -16,6 +15,7 @@ use Rattle.layout.specs.declared.Outcome.the-variants.{Accepted, Refused}
 use Rattle.layout.specs.Words.{entryWords, rows, entries, directoryLength, halfLength, directoryHalf, arena, lengthsOf, layout}
 use Rattle.layout.specs.Refusals.{isAccepted, refuse, outOfBounds, badSize, badDirectory, noRoom, firstBadRow, buildOutcome}
 use Rattle.layout.specs.Calls.{ifAccepted, index, after, buildOf}
+use Rattle.layout.proofs.RulerCells.{good-ruler}
 use Rattle.layout.proofs.Rows.{length-rows, of-whole}
 use Rattle.layout.proofs.Chains.{of-badSize}
 use Rattle.layout.proofs.Tables.{Table, of-firstBadRow, of-build}
@@ -26,13 +26,13 @@ use Rattle.build.proofs.RowsJudged.{originals-are}
 
 -- ---- the chain
 
-module _ (r : Ruler) (table : List ℕ) (directory originals replicas : ℕ) (good : inBounds (r .numbers) ≡ true) where
+module _ (r : Ruler) (table : List ℕ) (directory originals replicas : ℕ) (good : Made r) where
   abbrev says : Outcome
   says = buildOutcome (scale r) table (lengths directory originals replicas)
 
   in-bounds : outOfBounds (scale r) ≡ false
   unfolding outOfBounds
-  in-bounds = rw (scale-good (r .numbers), good)
+  in-bounds = rw (good-ruler r good)
 
   pub says-2 : badSize table ≡ true → Refused TableSize 0 ≡ says
   unfolding buildOutcome refuse
@@ -113,7 +113,7 @@ module _ (s : Scale) (table d o r : List ℕ) (a : Outcome) (says : a ≡ buildO
 
 -- ---- what each half is filled with
 
-module _ (r : Ruler) (table d o p : List ℕ) (good : inBounds (r .numbers) ≡ true)
+module _ (r : Ruler) (table d o p : List ℕ) (good : Made r)
     (w : Table (scale r) (rows table) (lengths (length d) (length o) (length p))) where
   tested-table : Tested r table
   tested-table = record { good = good; few = w .few; rowsOk = w .rowsOk }

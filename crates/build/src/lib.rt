@@ -19,8 +19,7 @@ use ruler::Numbers;
 use ruler::Ruler;
 use store::counting::directory_length;
 ghost use mathlib.Core.Path.{_≡_};
-ghost use mathlib.Core.Bool.{true};
-ghost use Rattle.ruler.specs.Ruler.{inBounds, scale, scaleOf};
+ghost use Rattle.ruler.specs.Ruler.{Made, scale, scaleOf};
 ghost use Rattle.layout.specs.Refusals.{buildOutcome};
 ghost use Rattle.layout.specs.Calls.{index, after, buildOf};
 ghost use Rattle.build.specs.RowsJudged.{lengths};
@@ -33,7 +32,7 @@ fn judged(
     originals: usize,
     replicas: usize,
 ) -> Outcome
-    requires { ⌜ inBounds (ruler .numbers) ≡ true ⌝ }
+    requires { ⌜ Made ruler ⌝ }
     ensures { λ r. ⌜ r ≡ buildOutcome (scale ruler) (now (table .entry)) (lengths directory originals replicas) ⌝ }
 {
     let words = table.len();
@@ -62,7 +61,7 @@ fn build_on(
     originals: &mut [u32],
     replicas: &mut [u32],
 ) -> Outcome
-    requires { ⌜ inBounds (ruler .numbers) ≡ true ⌝ }
+    requires { ⌜ Made ruler ⌝ }
     ensures { λ r.
         ⌜ after r (index (now (directory .exit)) (now (originals .exit)) (now (replicas .exit)))
         ≡ buildOf (scale ruler) (now (table .entry)) (index (now (directory .entry)) (now (originals .entry)) (now (replicas .entry))) ⌝ }

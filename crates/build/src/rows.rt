@@ -15,7 +15,7 @@ ghost use mathlib.Core.List.{[]};
 ghost use Prim.Native.Nat.{_/_, _<_, _≤_};
 ghost use lib.ListN.{length};
 ghost use Rattle.lists.specs.Lists.{sumOver};
-ghost use Rattle.ruler.specs.Ruler.{mostTrips, inBounds, scale};
+ghost use Rattle.ruler.specs.Ruler.{mostTrips, Made, scale};
 ghost use Rattle.layout.specs.Words.{entryWords, tripAt, rows, partitionsHolding};
 ghost use Rattle.layout.specs.Refusals.{hasId, noRoom, rowTests, firstBadRow};
 ghost use Rattle.store.specs.Ids.{idsDiffer};
@@ -53,7 +53,7 @@ fn id_taken(table: &[u32], i: usize, id: u32, differ: bool) -> bool
 
 // The tests of row i: 4, 5, 6.
 fn row_outcome(ruler: Ruler, table: &[u32], i: usize, differ: bool) -> Outcome
-    requires { ⌜ inBounds (ruler .numbers) ≡ true ⌝ }
+    requires { ⌜ Made ruler ⌝ }
     requires { ⌜ (i < length (now table) / entryWords) × (length (now table) / entryWords ≤ mostTrips) ⌝ }
     requires { ⌜ differ ≡ idsDiffer (rows (now table)) ⌝ }
     ensures { λ r. ⌜ r ≡ rowTests (scale ruler) (rowsBack (now (table .entry)) i) (tripAt (now (table .entry)) i) i Outcome.Accepted ⌝ }
@@ -74,7 +74,7 @@ fn row_outcome(ruler: Ruler, table: &[u32], i: usize, differ: bool) -> Outcome
 
 // The first bad row decides.
 fn first_bad_row(ruler: Ruler, table: &[u32], differ: bool) -> Outcome
-    requires { ⌜ inBounds (ruler .numbers) ≡ true ⌝ }
+    requires { ⌜ Made ruler ⌝ }
     requires { ⌜ length (now table) / entryWords ≤ mostTrips ⌝ }
     requires { ⌜ differ ≡ idsDiffer (rows (now table)) ⌝ }
     ensures { λ r. ⌜ r ≡ firstBadRow (scale ruler) 0 [] (rows (now (table .entry))) Outcome.Accepted ⌝ }
@@ -93,7 +93,7 @@ fn first_bad_row(ruler: Ruler, table: &[u32], differ: bool) -> Outcome
 
 // The tests of all rows.
 pub fn rows_outcome(ruler: Ruler, table: &[u32]) -> Outcome
-    requires { ⌜ inBounds (ruler .numbers) ≡ true ⌝ }
+    requires { ⌜ Made ruler ⌝ }
     requires { ⌜ length (now table) / entryWords ≤ mostTrips ⌝ }
     ensures { λ r. ⌜ r ≡ firstBadRow (scale ruler) 0 [] (rows (now (table .entry))) Outcome.Accepted ⌝ }
 {

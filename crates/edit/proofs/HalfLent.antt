@@ -1,13 +1,12 @@
 -- An edit that is accepted, as what its halves ask: the index, and the cells of the trip's times. Each half is lent as the index has it;
 -- both, come back, are the whole index again.
 use mathlib.Core.Path.{_≡_}
-use mathlib.Core.Bool.{true}
 use mathlib.Core.List.{List, List·Memᴰ as Mem}
 use Prim.Native.Nat.{ℕ, _+_, _-_}
 use lib.ListN.{length}
 use borrow.Rule.Slice.PartMut.{putMid}
 use Rattle.ruler.specs.declared.Ruler.{Ruler}
-use Rattle.ruler.specs.Ruler.{Scale, inBounds, scale}
+use Rattle.ruler.specs.Ruler.{Scale, Made, scale}
 use Rattle.trip.specs.declared.Trip.{Trip}
 use Rattle.layout.specs.declared.Half.{Half}
 use Rattle.layout.specs.declared.Half.the-variants.{Originals, Replicas}
@@ -28,7 +27,7 @@ pub record Edit (s : Scale) (x : Index) (Asks : Half → (dir arena : List ℕ) 
   pub is-index : Indexed s x
   pub ready : (half : Half) (dir arena : List ℕ) → HalfOf s half (tableOf s x) x dir arena → Asks half dir arena
 
-pub adding : (r : Ruler) → inBounds (r .numbers) ≡ true → (x : Index) (t : Trip) → addOutcome (scale r) x t ≡ Accepted
+pub adding : (r : Ruler) → Made r → (x : Index) (t : Trip) → addOutcome (scale r) x t ≡ Accepted
     → Edit (scale r) x (λ half dir arena. Adding (scale r) half x t dir arena)
 adding r good x t a =
     let e = of-add (scale r) x t a in
@@ -38,7 +37,7 @@ adding r good x t a =
       ready = λ half dir arena w. record { deep = deep-ruler r good; accepted = a; fits = f; end-in = last-cell r good t f; words-are = w };
     }
 
-pub removing : (r : Ruler) → inBounds (r .numbers) ≡ true → (x : Index) (t : Trip) → removeOutcome (scale r) x (t .id) ≡ Accepted
+pub removing : (r : Ruler) → Made r → (x : Index) (t : Trip) → removeOutcome (scale r) x (t .id) ≡ Accepted
     → Mem t (tableOf (scale r) x) → Edit (scale r) x (λ half dir arena. Removing (scale r) half x t dir arena)
 removing r good x t a m =
     let e = of-remove (scale r) x (t .id) a .is-index in

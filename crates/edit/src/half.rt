@@ -5,9 +5,8 @@ use ruler::Ruler;
 use store::places;
 use trip::Trip;
 ghost use mathlib.Core.Path.{_≡_};
-ghost use mathlib.Core.Bool.{true};
 ghost use mathlib.Core.List.{_∷_};
-ghost use Rattle.ruler.specs.Ruler.{Scale, inBounds, scale};
+ghost use Rattle.ruler.specs.Ruler.{Scale, Made, scale};
 ghost use Rattle.layout.specs.Words.{Index};
 ghost use Rattle.layout.specs.Refusals.{tableOf};
 ghost use Rattle.layout.specs.Calls.{without};
@@ -48,7 +47,7 @@ fn remove_from_slots(half: Half, dir: &mut [u32], arena: &mut [u32], spots: &[u3
 
 // Adds a trip to a half.
 pub fn add_half(ruler: Ruler, half: Half, dir: &mut [u32], arena: &mut [u32], t: Trip)
-    requires { ⌜ inBounds (ruler .numbers) ≡ true ⌝ }
+    requires { ⌜ Made ruler ⌝ }
     requires { ⌜ ((x : Index) × Adding (scale ruler) half x t (now dir) (now arena)) ⌝ }
     ensures { λ _.
         ⌜ ((x : Index) → Adding (scale ruler) half x t (now (dir .entry)) (now (arena .entry))
@@ -61,7 +60,7 @@ pub fn add_half(ruler: Ruler, half: Half, dir: &mut [u32], arena: &mut [u32], t:
 
 // Removes a trip from a half.
 pub fn remove_half(ruler: Ruler, half: Half, dir: &mut [u32], arena: &mut [u32], t: Trip)
-    requires { ⌜ inBounds (ruler .numbers) ≡ true ⌝ }
+    requires { ⌜ Made ruler ⌝ }
     requires { ⌜ ((x : Index) × Removing (scale ruler) half x t (now dir) (now arena)) ⌝ }
     ensures { λ _.
         ⌜ ((x : Index) → Removing (scale ruler) half x t (now (dir .entry)) (now (arena .entry))

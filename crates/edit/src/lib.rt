@@ -15,9 +15,8 @@ use trip::Trip;
 use verify::Opened;
 use verify::open;
 ghost use mathlib.Core.Path.{_≡_};
-ghost use mathlib.Core.Bool.{true};
 ghost use mathlib.Core.List.{_∷_, List·Memᴰ};
-ghost use Rattle.ruler.specs.Ruler.{inBounds, scaleOf, scale};
+ghost use Rattle.ruler.specs.Ruler.{Made, scaleOf, scale};
 ghost use Rattle.layout.specs.declared.Outcome.{Outcome};
 ghost use Rattle.layout.specs.Words.{lengthsOf, layout};
 ghost use Rattle.layout.specs.Refusals.{tableOf, checkOutcome, addOutcome, removeOutcome};
@@ -29,7 +28,7 @@ mod tests;
 
 // Writes an addition that is accepted: first the originals with their half of the directory, then the replicas.
 fn put_in(ruler: Ruler, directory: &mut [u32], originals: &mut [u32], replicas: &mut [u32], t: Trip)
-    requires { ⌜ inBounds (ruler .numbers) ≡ true ⌝ }
+    requires { ⌜ Made ruler ⌝ }
     requires { ⌜ addOutcome (scale ruler) (index (now directory) (now originals) (now replicas)) t ≡ Outcome.Accepted ⌝ }
     ensures { λ _.
         ⌜ index (now (directory .exit)) (now (originals .exit)) (now (replicas .exit))
@@ -62,7 +61,7 @@ fn take_out(
     replicas: &mut [u32],
     t: Trip,
 )
-    requires { ⌜ inBounds (ruler .numbers) ≡ true ⌝ }
+    requires { ⌜ Made ruler ⌝ }
     requires { ⌜ removeOutcome (scale ruler) (index (now directory) (now originals) (now replicas)) (t .id) ≡ Outcome.Accepted ⌝ }
     requires { ⌜ List·Memᴰ t (tableOf (scale ruler) (index (now directory) (now originals) (now replicas))) ⌝ }
     ensures { λ _.
@@ -97,7 +96,7 @@ fn add_checked(
     replicas: &mut [u32],
     t: Trip,
 ) -> Outcome
-    requires { ⌜ inBounds (ruler .numbers) ≡ true ⌝ }
+    requires { ⌜ Made ruler ⌝ }
     requires { ⌜ checkOutcome (scale ruler) (index (now directory) (now originals) (now replicas)) ≡ Outcome.Accepted ⌝ }
     ensures { λ r.
         ⌜ after r (index (now (directory .exit)) (now (originals .exit)) (now (replicas .exit)))
@@ -119,7 +118,7 @@ fn remove_checked(
     replicas: &mut [u32],
     id: u32,
 ) -> Outcome
-    requires { ⌜ inBounds (ruler .numbers) ≡ true ⌝ }
+    requires { ⌜ Made ruler ⌝ }
     requires { ⌜ checkOutcome (scale ruler) (index (now directory) (now originals) (now replicas)) ≡ Outcome.Accepted ⌝ }
     ensures { λ r.
         ⌜ after r (index (now (directory .exit)) (now (originals .exit)) (now (replicas .exit)))

@@ -12,11 +12,10 @@ use store::half::trips_of;
 use store::places;
 use trip::Trip;
 ghost use mathlib.Core.Path.{_≡_};
-ghost use mathlib.Core.Bool.{true};
 ghost use Prim.Native.Nat.{_+_, _*_, _<_, _≤_};
 ghost use lib.Dec.{ltb};
 ghost use lib.ListN.{length};
-ghost use Rattle.ruler.specs.Ruler.{inBounds, scale};
+ghost use Rattle.ruler.specs.Ruler.{Made, scale};
 ghost use Rattle.layout.specs.declared.Outcome.{Outcome};
 ghost use Rattle.layout.specs.Words.{entryWords, rows};
 ghost use Rattle.layout.specs.Refusals.{rowTests, checkOutcome, addOutcome, Fits};
@@ -43,7 +42,7 @@ pub fn find_id(part: &[u32], id: u32) -> usize
 
 // How many entries a trip has in a half.
 fn entries_of_trip(ruler: Ruler, half: Half, t: Trip) -> usize
-    requires { ⌜ inBounds (ruler .numbers) ≡ true ⌝ }
+    requires { ⌜ Made ruler ⌝ }
     requires { ⌜ Fits (scale ruler) t ⌝ }
     ensures { λ r. ⌜ (r ≡ length (slotsOfTrip (scale ruler) half t)) × (r ≤ mostSlots) ⌝ }
 {
@@ -53,7 +52,7 @@ fn entries_of_trip(ruler: Ruler, half: Half, t: Trip) -> usize
 
 // Whether an arena of so many words lacks room for `used` entries and those of the trip.
 fn lacks_room(ruler: Ruler, half: Half, used: usize, words: usize, t: Trip) -> bool
-    requires { ⌜ inBounds (ruler .numbers) ≡ true ⌝ }
+    requires { ⌜ Made ruler ⌝ }
     requires { ⌜ Fits (scale ruler) t × (used ≤ mostEntries) ⌝ }
     ensures { λ r. ⌜ r ≡ ltb words (entryWords * (used + length (slotsOfTrip (scale ruler) half t))) ⌝ }
 {
@@ -62,7 +61,7 @@ fn lacks_room(ruler: Ruler, half: Half, used: usize, words: usize, t: Trip) -> b
 
 // The tests 4, 5 and 6 of a trip beside those that are there.
 fn trip_outcome(ruler: Ruler, there: &[u32], t: Trip) -> Outcome
-    requires { ⌜ inBounds (ruler .numbers) ≡ true ⌝ }
+    requires { ⌜ Made ruler ⌝ }
     ensures { λ r. ⌜ r ≡ rowTests (scale ruler) (rows (now (there .entry))) t 0 Outcome.Accepted ⌝ }
 {
     let start = t.start;
@@ -85,7 +84,7 @@ pub fn add_outcome(
     replicas: &[u32],
     t: Trip,
 ) -> Outcome
-    requires { ⌜ inBounds (ruler .numbers) ≡ true ⌝ }
+    requires { ⌜ Made ruler ⌝ }
     requires { ⌜ checkOutcome (scale ruler) (index (now directory) (now originals) (now replicas)) ≡ Outcome.Accepted ⌝ }
     ensures { λ r. ⌜ r ≡ addOutcome (scale ruler) (index (now (directory .entry)) (now (originals .entry)) (now (replicas .entry))) t ⌝ }
 {

@@ -5,7 +5,7 @@ use ruler::Ruler;
 use ruler::Time;
 ghost use mathlib.Core.Path.{_≡_};
 ghost use mathlib.Core.Bool.{true};
-ghost use Rattle.ruler.specs.Ruler.{inBounds, scale};
+ghost use Rattle.ruler.specs.Ruler.{Made, scale};
 ghost use Rattle.layout.specs.Stored.{subdivisionOf};
 ghost use Rattle.layout.specs.Words.{entryWords};
 ghost use Rattle.layout.specs.Refusals.{refusalNumber, numberOf, detailOf, isAccepted, timeTests};
@@ -134,7 +134,7 @@ pub fn refused(refusal: Refusal, detail: u32) -> Outcome
 
 // The tests 4 and 5 of a trip's times or of a window's.
 pub fn time_outcome(ruler: Ruler, start: Time, end: Time, detail: u32) -> Outcome
-    requires { ⌜ inBounds (ruler .numbers) ≡ true ⌝ }
+    requires { ⌜ Made ruler ⌝ }
     ensures { λ r. ⌜ r ≡ timeTests (scale ruler) start end detail Outcome.Accepted ⌝ }
 {
     let off_ruler = !(ruler.has(start) & ruler.has(end));

@@ -9,7 +9,6 @@ use lib.Dec.{T, leb→le, le→leb, ltb→lt, eqb→eq}
 use Rattle.lists.proofs.Tests.{of-and, to-and, of-three}
 use Rattle.ruler.specs.declared.Time.{Time}
 use Rattle.ruler.specs.Ruler.{Scale, deepest, before, sameTime, noLater, cellOf}
-use Rattle.ruler.proofs.CellLevels.{up-bottom}
 use Rattle.ruler.proofs.Fair.{Fair}
 use Rattle.trip.specs.declared.Trip.{Trip}
 use Rattle.trip.specs.declared.Window.{Window}
@@ -28,7 +27,7 @@ planAt m r f l = planOf r (cellOf m f) (cellOf m l) (cellOf m 0) (cellOf m (2 ^ 
 
 pub plan-for : (s : Scale) (r : Relationship) (q : Window) → planFor s r q ≡ planAt (s .m) r (s .cell (q .start)) (s .cell (q .end))
 unfolding planFor
-plan-for s r q = rw (up-bottom (s .m) (s .cell (q .start)), up-bottom (s .m) (s .cell (q .end)))
+plan-for s r q = refl
 
 -- ---- the range
 

@@ -7,7 +7,7 @@ use Prim.Native.Nat.{ℕ, _+_, _-_, _*_, _^_, _≤_, _<_}
 use lib.Dec.{ltb}
 use Rattle.lists.specs.Lists.{keep}
 use Rattle.ruler.specs.declared.Cell.{Cell}
-use Rattle.ruler.specs.Ruler.{Scale, deepest, cellUp, cellOf, cellAt, nextCell, begins}
+use Rattle.ruler.specs.Ruler.{Scale, deepest, cellUp, cellOf, bottomCell, nextCell, begins}
 use Rattle.trip.specs.declared.Trip.{Trip}
 use Rattle.trip.specs.declared.Window.{Window}
 use Rattle.trip.specs.declared.Relationship.{Relationship}
@@ -42,7 +42,7 @@ planOf After f l first last = plan Starting first f
 planOf GOverlaps f l first last = record { kind = Crossing; low = f; high = l; quick = true }
 
 unfoldable pub planFor : Scale → Relationship → Window → Plan
-planFor s r q = planOf r (cellAt s (s .m) (q .start)) (cellAt s (s .m) (q .end)) (cellOf (s .m) 0) (cellOf (s .m) (2 ^ s .m - 1))
+planFor s r q = planOf r (bottomCell s (q .start)) (bottomCell s (q .end)) (cellOf (s .m) 0) (cellOf (s .m) (2 ^ s .m - 1))
 
 -- a plan for the cells of level m
 pub record Ranged (m : ℕ) (p : Plan) : Type 0 where

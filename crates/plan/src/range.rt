@@ -6,7 +6,8 @@ use trip::Relationship;
 use trip::Window;
 ghost use mathlib.Core.Path.{_≡_};
 ghost use mathlib.Core.Bool.{true};
-ghost use Rattle.ruler.specs.Ruler.{inBounds, scale};
+ghost use Rattle.ruler.specs.Ruler.{Made, scale};
+ghost use Rattle.layout.specs.Refusals.{OnRuler};
 ghost use Rattle.plan.specs.Plan.{plan, planOf, planFor};
 
 pub enum Kind {
@@ -68,12 +69,13 @@ fn plan_of(relationship: Relationship, f: Cell, l: Cell, first: Cell, last: Cell
 
 // The plan of a question on a ruler.
 pub fn plan_for(ruler: Ruler, relationship: Relationship, q: Window) -> Plan
-    requires { ⌜ inBounds (ruler .numbers) ≡ true ⌝ }
+    requires { ⌜ Made ruler ⌝ }
+    requires { ⌜ OnRuler (scale ruler) (q .start) (q .end) ⌝ }
     ensures { λ r. ⌜ r ≡ planFor (scale ruler) relationship q ⌝ }
 {
     let m = ruler.bottom();
-    let f = ruler.cell(m, q.start);
-    let l = ruler.cell(m, q.end);
+    let f = ruler.bottom_cell(q.start);
+    let l = ruler.bottom_cell(q.end);
     let first = Cell::at(m, 0);
     let last = Cell::at(m, power(m) - 1);
     plan_of(relationship, f, l, first, last)

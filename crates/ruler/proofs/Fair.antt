@@ -3,12 +3,12 @@ use mathlib.Core.Path.{_≡_, refl, ap, _∙_}
 use mathlib.Core.Bool.{_&&_}
 use Prim.Native.Nat.{ℕ, _+_, _-_, _/_, _^_, _≤_, _<_}
 use native.Mathlib.Omega.{arith}
-use lib.Dec.{T, leb, leb→le, ltb→lt, lt→ltb}
+use lib.Dec.{T, leb, ltb, leb→le, ltb→lt, lt→ltb}
 use lib.Pow.{pow-mono, shr-shr, shr-mono, shr-lt}
-use Rattle.lists.proofs.Tests.{of-and}
+use Rattle.lists.proofs.Tests.{agree, of-and, to-and, of-three, to-three}
 use Rattle.ruler.specs.declared.Time.{Time}
 use Rattle.ruler.specs.declared.Numbers.{Numbers}
-use Rattle.ruler.specs.Ruler.{Scale, widest, deepest, inBounds, scaleOf, cellUp, bottomOf}
+use Rattle.ruler.specs.Ruler.{Scale, widest, deepest, inBounds, scaleOf, spans, cellUp, bottomOf}
 
 -- the map from times to level-m cells never falls, a time of the ruler has one of the 2 ^ m cells, and it is far from the end of a word
 pub record Fair (s : Scale) : Type 0 where
@@ -58,10 +58,18 @@ fair n t = let h = bounds n t .fits in record {
   not-far = λ u b. omega (arith, ltb→lt (u .0) (2 ^ n .w) b, pow-mono (bounds n t .wide));
 }
 
--- a time that is no later than one of the ruler is of the ruler
-pub has-earlier : (n : Numbers) (t u : Time) → t .0 ≤ u .0 → T (scaleOf n .has u) → T (scaleOf n .has t)
+-- of two times in order the second alone is tested for the ruler's end
+pub spans-end : (n : Numbers) (a b : Time) → leb (a .0) (b .0) && ltb (b .0) (2 ^ n .w) ≡ spans (scaleOf n) a b
 unfolding scaleOf
-has-earlier n t u l h = lt→ltb (t .0) (2 ^ n .w) (omega (arith, ltb→lt (u .0) (2 ^ n .w) h))
+spans-end n a b =
+    let order = leb (a .0) (b .0) in
+    let end = ltb (b .0) (2 ^ n .w) in
+    let start = ltb (a .0) (2 ^ n .w) in
+    agree (order && end) (start && end && order)
+    (λ h. let f = of-and order end h in
+    to-three start end order
+    (lt→ltb (a .0) (2 ^ n .w) (omega (arith, leb→le (a .0) (b .0) (f .0), ltb→lt (b .0) (2 ^ n .w) (f .1))), f .1, f .0))
+    (λ h. let f = of-three start end order h in to-and order end (f .2) (f .1))
 
 -- "The cell of time t at level L is the whole part of t / 2^(w − L)."
 pub cell-at-level : (n : Numbers) (L : ℕ) (t : Time) → n .m ≤ n .w → L ≤ n .m → cellUp (n .m) L (scaleOf n .cell t) ≡ t .0 / 2 ^ (n .w - L)

@@ -1,4 +1,5 @@
 -- Document 01, "Ruler and cells", as definitions. Every test is a Bool and computes.
+use mathlib.Core.Path.{_≡_}
 use mathlib.Core.Bool.{Bool, cond, _&&_}
 use Prim.Native.Nat.{ℕ, zero, suc, _+_, _-_, _*_, _/_, _%_, _^_}
 use lib.Dec.{leb, ltb, eqb}
@@ -69,6 +70,10 @@ scaleOf n = record {
 abbrev pub scale : Ruler → Scale
 scale r = scaleOf (r .numbers)
 
+-- both times are on the ruler, the first no later than the second
+abbrev pub spans : Scale → (start end : Time) → Bool
+spans s start end = s .has start && s .has end && noLater start end
+
 -- the number of the level-L cell in which the level-m cell c lies: each step towards level 0 halves it
 unfoldable pub cellUp : (m L c : ℕ) → ℕ
 cellUp m L c = c / 2 ^ (m - L)
@@ -76,9 +81,6 @@ cellUp m L c = c / 2 ^ (m - L)
 -- a cell at a level: the level, and the number of the cell there
 abbrev pub cellOf : (level number : ℕ) → Cell
 cellOf level number = record { 0 = level; 1 = number }
-
-abbrev pub cellAt : Scale → (level : ℕ) → Time → Cell
-cellAt s level t = cellOf level (cellUp (s .m) level (s .cell t))
 
 -- the level-m cell of a time
 abbrev pub bottomCell : Scale → Time → Cell
@@ -136,6 +138,15 @@ pieces (suc n) x y = cond (leb y x) 0 (x % 2 + y % 2 + pieces n ((x + 1) / 2) (y
 abbrev pub cellRank : Cell → ℕ
 cellRank c = 2 ^ c .0 - 1 + c .1
 
+-- ---- a ruler
+
+abbrev pub rulerOf : Numbers → Ruler
+rulerOf n = record { numbers = n }
+
 -- the ruler of some numbers, or the refusal of them
 unfoldable pub judge : Numbers → Judged
-judge n = cond (inBounds n) (Good (record { numbers = n })) OutOfBounds
+judge n = cond (inBounds n) (Good (rulerOf n)) OutOfBounds
+
+-- a ruler as it is made: of its numbers, which are in bounds
+abbrev pub Made : Ruler → Type 0
+Made r = judge (r .numbers) ≡ Good r

@@ -1,13 +1,13 @@
 // The ruler: raw times, cells at a level, and the numbers that a caller names a ruler by.
 ghost use mathlib.Core.Path.{_≡_};
-ghost use mathlib.Core.Bool.{true};
 ghost use Prim.Native.Nat.{_+_, _-_, _^_, _<_, _≤_};
-ghost use Rattle.ruler.specs.Ruler.{timeAt, before, sameTime, noLater, nextTime, widest, deepest, mostTrips, inBounds, judge, scale, bottomOf};
-ghost use Rattle.ruler.specs.Ruler.{cellOf, cellAt, bottomCell, sameCell, noLaterCell, nextCell, cellAbove, cellIn, parity, firstOfTwo};
+ghost use lib.Dec.{T};
+ghost use Rattle.ruler.specs.Ruler.{timeAt, before, sameTime, noLater, nextTime, widest, deepest, mostTrips, judge, scale, spans, bottomOf, Made};
+ghost use Rattle.ruler.specs.Ruler.{cellOf, bottomCell, sameCell, noLaterCell, nextCell, cellAbove, cellIn, parity, firstOfTwo};
 ghost use Rattle.ruler.specs.Ruler.{firstIn, lastIn, begins, levelsBegun, pieces, cellRank};
 
 // A raw time: whole seconds on the service day, which may pass 24:00:00. Its field is private: outside this crate a time can only be given
-// to the functions below, of which none but `Ruler::cell` and `Ruler::bottom_cell` has to do with cells. Its number leaves it by `seconds`,
+// to the functions below, of which none but `Ruler::bottom_cell` has to do with cells. Its number leaves it by `seconds`,
 // which is called only where an entry's words are written (store/src/entry.rt).
 pub struct Time(u32);
 
@@ -252,30 +252,31 @@ impl Ruler {
 
     // Whether a raw time is on the ruler.
     pub fn has(self, t: Time) -> bool
-        requires { ⌜ inBounds (self .numbers) ≡ true ⌝ }
+        requires { ⌜ Made self ⌝ }
         ensures { λ r. ⌜ r ≡ scale self .has t ⌝ }
     {
         let w = self.numbers.w;
         t.0 < power(w)
     }
 
-    // The cell of a time at a level.
-    pub fn cell(self, level: u32, t: Time) -> Cell
-        requires { ⌜ inBounds (self .numbers) ≡ true ⌝ }
-        requires { ⌜ level ≤ scale self .m ⌝ }
-        ensures { λ r. ⌜ r ≡ cellAt (scale self) level t ⌝ }
+    // Whether both times are on the ruler, the first no later than the second: then the first can't be past its end.
+    pub fn spans(self, start: Time, end: Time) -> bool
+        requires { ⌜ Made self ⌝ }
+        ensures { λ r. ⌜ r ≡ spans (scale self) start end ⌝ }
     {
         let w = self.numbers.w;
-        Cell(level, t.0 >> (w - level))
+        (start.0 <= end.0) & (end.0 < power(w))
     }
 
     // The level-m cell of a time.
     pub fn bottom_cell(self, t: Time) -> Cell
-        requires { ⌜ inBounds (self .numbers) ≡ true ⌝ }
+        requires { ⌜ Made self ⌝ }
+        requires { ⌜ T (scale self .has t) ⌝ }
         ensures { λ r. ⌜ r ≡ bottomCell (scale self) t ⌝ }
     {
+        let w = self.numbers.w;
         let m = self.numbers.m;
-        self.cell(m, t)
+        Cell(m, t.0 >> (w - m))
     }
 }
 

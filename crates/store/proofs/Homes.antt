@@ -15,7 +15,7 @@ use Rattle.lists.proofs.Tests.{to-and, of-T, of-not-T}
 use Rattle.lists.proofs.Members.{to-keep}
 use Rattle.lists.proofs.Kept.{keep-all}
 use Rattle.ruler.specs.declared.Ruler.{Ruler}
-use Rattle.ruler.specs.Ruler.{Scale, inBounds, scale, cellUp}
+use Rattle.ruler.specs.Ruler.{Scale, Made, scale, cellUp}
 use Rattle.ruler.proofs.Fair.{Fair}
 use Rattle.ruler.proofs.CellLevels.{up-half, up-bottom, up-lt}
 use Rattle.ruler.proofs.Zeros.{zeros-begin, zeros-stop}
@@ -199,7 +199,7 @@ module _ (s : Scale) (fair : Fair s) (t : Trip) (f : Fits s t) where
 
 -- ---- the same of a ruler, for the code
 
-module _ (r : Ruler) (t : Trip) (good : inBounds (r .numbers) ≡ true) (f : Fits (scale r) t) where
+module _ (r : Ruler) (t : Trip) (good : Made r) (f : Fits (scale r) t) where
   pub level-deep : homeLevel (scale r .m) (scale r .cell (t .start)) (scale r .cell (t .end)) (scale r .m) ≤ scale r .m
   level-deep = home-deep (scale r) (fair-ruler r good) t f
 

@@ -3,15 +3,14 @@ use layout::directory::half_length;
 use ruler::Ruler;
 use trip::Trip;
 ghost use mathlib.Core.Path.{_≡_};
-ghost use mathlib.Core.Bool.{true};
 ghost use Prim.Native.Nat.{_≤_};
-ghost use Rattle.ruler.specs.Ruler.{deepest, inBounds, scale};
+ghost use Rattle.ruler.specs.Ruler.{deepest, Made, scale};
 ghost use Rattle.layout.specs.Words.{directoryLength, partitionsHolding};
 ghost use Rattle.layout.specs.Refusals.{Fits};
 
 // As many as hold the trip: they are the largest that make up its cells, side by side.
 pub fn partitions_holding(ruler: Ruler, t: Trip) -> u32
-    requires { ⌜ inBounds (ruler .numbers) ≡ true ⌝ }
+    requires { ⌜ Made ruler ⌝ }
     requires { ⌜ Fits (scale ruler) t ⌝ }
     ensures { λ r. ⌜ r ≡ partitionsHolding (scale ruler) t ⌝ }
 {

@@ -4,10 +4,10 @@ use ruler::Cell;
 use ruler::Ruler;
 use trip::Trip;
 ghost use mathlib.Core.Path.{_≡_};
-ghost use mathlib.Core.Bool.{true, cond};
+ghost use mathlib.Core.Bool.{cond};
 ghost use Prim.Native.Nat.{_+_, _-_, _*_, _^_, _<_, _≤_};
 ghost use lib.ListN.{length};
-ghost use Rattle.ruler.specs.Ruler.{deepest, inBounds, scale};
+ghost use Rattle.ruler.specs.Ruler.{deepest, Made, scale};
 ghost use Rattle.layout.specs.declared.Half.the-variants.{Replicas};
 ghost use Rattle.layout.specs.Words.{slotNumber};
 ghost use Rattle.layout.specs.Refusals.{Fits};
@@ -146,7 +146,7 @@ fn home_level(a: Cell, b: Cell) -> u32
 
 // The slot of a trip's original entry.
 pub fn home(ruler: Ruler, t: Trip) -> u32
-    requires { ⌜ inBounds (ruler .numbers) ≡ true ⌝ }
+    requires { ⌜ Made ruler ⌝ }
     requires { ⌜ Fits (scale ruler) t ⌝ }
     ensures { λ r. ⌜ r ≡ home (scale ruler) t ⌝ }
 {
@@ -159,7 +159,7 @@ pub fn home(ruler: Ruler, t: Trip) -> u32
 
 // Writes the slots of a trip's replicas, by the cells of its times, and says how many.
 pub fn replica_slots(ruler: Ruler, t: Trip, spots: &mut [u32]) -> usize
-    requires { ⌜ inBounds (ruler .numbers) ≡ true ⌝ }
+    requires { ⌜ Made ruler ⌝ }
     requires { ⌜ Fits (scale ruler) t × (mostSlots ≤ length (now spots)) ⌝ }
     ensures { λ r.
         ⌜ (r ≡ length (slotsOfTrip (scale ruler) Replicas t)) × (now (spots .exit) ≡ over (slotsOfTrip (scale ruler) Replicas t) (now (spots .entry))) ⌝ }
@@ -171,7 +171,7 @@ pub fn replica_slots(ruler: Ruler, t: Trip, spots: &mut [u32]) -> usize
 
 // Writes the slots of a half in which a trip has an entry, and says how many. Its one original needs no walk.
 pub fn trip_slots(ruler: Ruler, half: Half, t: Trip, spots: &mut [u32]) -> usize
-    requires { ⌜ inBounds (ruler .numbers) ≡ true ⌝ }
+    requires { ⌜ Made ruler ⌝ }
     requires { ⌜ Fits (scale ruler) t × (mostSlots ≤ length (now spots)) ⌝ }
     ensures { λ r.
         ⌜ (r ≡ length (slotsOfTrip (scale ruler) half t)) × (now (spots .exit) ≡ over (slotsOfTrip (scale ruler) half t) (now (spots .entry))) ⌝ }

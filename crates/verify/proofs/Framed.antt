@@ -6,16 +6,14 @@ use Prim.Native.Nat.{ℕ, zero, suc, _+_, _-_, _*_, _/_, _%_, _^_, _≤_, _<_}
 use native.Mathlib.Nat.{two-pow-succ, mul-le-mul-right}
 use native.Mathlib.Decide.{decLt}
 use native.Mathlib.Omega.{arith}
-use lib.Arith.{le→nltb}
-use lib.Dec.{T, leb, eqb, leb→le, le→leb, nltb→le}
+use lib.Dec.{T, leb, eqb, leb→le, le→leb}
 use lib.Pow.{pow-pos}
 use borrow.Author.Tests.{leb-false, lt-leb, eqb-true, eqb-false, eq-eqb, ne-eqb}
-use Rattle.lists.proofs.Tests.{of-and, to-and, of-nor, of-not-T, to-T}
+use Rattle.lists.proofs.Tests.{of-and, to-and, of-three, to-three, of-nor, of-not-T, to-T}
 use Rattle.ruler.specs.declared.Time.{Time}
-use Rattle.ruler.specs.declared.Numbers.{Numbers}
-use Rattle.ruler.specs.Ruler.{Scale, scaleOf, before, cellOf, cellUp}
+use Rattle.ruler.specs.Ruler.{Scale, noLater, spans, cellOf, cellUp}
 use Rattle.ruler.proofs.CellLevels.{all-cells, up-from, up-to, up-at}
-use Rattle.ruler.proofs.Fair.{Fair, has-earlier}
+use Rattle.ruler.proofs.Fair.{Fair}
 use Rattle.trip.specs.declared.Trip.{Trip}
 use Rattle.layout.specs.declared.Half.{Half}
 use Rattle.layout.specs.declared.Half.the-variants.{Originals, Replicas}
@@ -33,14 +31,13 @@ use Rattle.verify.proofs.Passing.{bool-ext}
 
 -- ---- tests 4 and 5
 
-pub off-end : (s : Scale) (a b : Time) → s .has b ≡ false → onRuler s a b ≡ false
-off-end s a b e = bool-ext _ false (λ t. rw e at (of-onRuler s a b t .ends)) (λ t. absurd t)
-
-pub on-end : (n : Numbers) (a b : Time) → scaleOf n .has b ≡ true → onRuler (scaleOf n) a b ≡ not (before b a)
-on-end n a b e =
-    bool-ext (onRuler (scaleOf n) a b) (not (before b a)) (λ t. le→nltb (b .0) (a .0) (of-onRuler (scaleOf n) a b t .ordered))
-    (λ t. let l = nltb→le (b .0) (a .0) t in
-    to-onRuler (scaleOf n) a b (record { starts = has-earlier n a b l (to-T e); ends = to-T e; ordered = l }))
+pub by-spans : (s : Scale) (a b : Time) → spans s a b ≡ onRuler s a b
+by-spans s a b =
+    bool-ext (spans s a b) (onRuler s a b)
+    (λ t. let f = of-three (s .has a) (s .has b) (noLater a b) t in
+    to-onRuler s a b (record { starts = f .0; ends = f .1; ordered = leb→le (a .0) (b .0) (f .2) }))
+    (λ t. let f = of-onRuler s a b t in
+    to-three (s .has a) (s .has b) (noLater a b) (f .starts, f .ends, le→leb (a .0) (b .0) (f .ordered)))
 
 -- ---- a partition and its parent
 

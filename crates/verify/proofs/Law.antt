@@ -1,6 +1,6 @@
 -- The local tests pass exactly where the definition's test of an index does.
 use mathlib.Core.Path.{_≡_, refl, sym, ap, _∙_}
-use mathlib.Core.Bool.{true, _&&_}
+use mathlib.Core.Bool.{_&&_}
 use mathlib.Core.List.{List, List·Memᴰ as Mem}
 use Prim.Native.Nat.{ℕ, _+_, _-_, _*_, _<_}
 use native.Mathlib.Omega.{arith}
@@ -12,8 +12,8 @@ use Rattle.lists.proofs.Tests.{of-and, to-and, to-T}
 use Rattle.lists.proofs.Members.{In, of-joined, to-joined}
 use Rattle.lists.proofs.Joined.{joined-ext}
 use Rattle.ruler.specs.declared.Ruler.{Ruler}
-use Rattle.ruler.specs.Ruler.{Scale, mostTrips, inBounds, scale}
-use Rattle.ruler.proofs.Fair.{Fair, scale-good}
+use Rattle.ruler.specs.Ruler.{Scale, mostTrips, Made, scale}
+use Rattle.ruler.proofs.Fair.{Fair}
 use Rattle.trip.specs.declared.Trip.{Trip}
 use Rattle.trip.specs.Trips.{sameTrip}
 use Rattle.trip.proofs.SameWords.{of-same, same-refl}
@@ -22,7 +22,7 @@ use Rattle.layout.specs.declared.Half.the-variants.{Originals, Replicas}
 use Rattle.layout.specs.Words.{order, partitions, halfLength, directoryLength, partitionsHolding, subdivisionAt, Index}
 use Rattle.layout.specs.Refusals.{isIndex, fits}
 use Rattle.layout.specs.Calls.{index}
-use Rattle.layout.proofs.RulerCells.{fair-ruler}
+use Rattle.layout.proofs.RulerCells.{good-ruler, fair-ruler}
 use Rattle.layout.proofs.RowOrder.{slot-order}
 use Rattle.layout.proofs.Indexes.{of-isIndex, to-isIndex}
 use Rattle.layout.proofs.SlotMembers.{inSlot}
@@ -184,7 +184,7 @@ module _ (s : Scale) (fair : Fair s) (x : Index) (good : T (s .good)) (long : le
       to-isIndex s x (local-index s fair x _ _ good long (record { in-originals = w .0; in-replicas = w .1; proper = w .2 })))
 
 -- the same of a ruler, for the two halves as the code lends them
-module _ (r : Ruler) (d : List ℕ) (good : inBounds (r .numbers) ≡ true) (long : length d ≡ directoryLength (scale r .m)) {h : ℕ}
+module _ (r : Ruler) (d : List ℕ) (good : Made r) (long : length d ≡ directoryLength (scale r .m)) {h : ℕ}
     (half : h ≡ halfLength (scale r .m)) where
   both : length d ≡ h + h
   both = two-halves (scale r .m) long half
@@ -197,4 +197,4 @@ module _ (r : Ruler) (d : List ℕ) (good : inBounds (r .numbers) ≡ true) (lon
   unfolding originalsHalf replicasHalf
   halves-index orig repl =
       rw (first-lent d h (length d) both refl, second-lent d h (length d) both refl, half)
-      (locally-index (scale r) (fair-ruler r good) (index d orig repl) (to-T (scale-good (r .numbers) ∙ good)) long)
+      (locally-index (scale r) (fair-ruler r good) (index d orig repl) (to-T (good-ruler r good)) long)

@@ -6,8 +6,9 @@ use native.Mathlib.Omega.{arith}
 use Rattle.lists.proofs.Tests.{of-T}
 use Rattle.ruler.specs.declared.Numbers.{Numbers}
 use Rattle.ruler.specs.declared.Ruler.{Ruler}
-use Rattle.ruler.specs.Ruler.{inBounds, scaleOf, scale}
+use Rattle.ruler.specs.Ruler.{Made, scaleOf, scale, rulerOf}
 use Rattle.ruler.proofs.Fair.{scale-good}
+use Rattle.ruler.proofs.RulerMade.{made-of}
 use Rattle.layout.specs.declared.Refusal.{Refusal}
 use Rattle.layout.specs.declared.Outcome.{Outcome}
 use Rattle.layout.specs.declared.Outcome.the-variants.{Accepted, Refused}
@@ -22,7 +23,7 @@ use Rattle.verify.specs.Opening.{openedAs, openOf, outcomeOf}
 -- an index, and the ruler made for it
 pub record Open (n : Numbers) (x : Index) (r : Ruler) : Type 0 where
   pub numbers : r .numbers ≡ n
-  pub good : inBounds (r .numbers) ≡ true
+  pub good : Made r
   pub passes : checkOutcome (scale r) x ≡ Accepted
   pub is-index : isIndex (scale r) x ≡ true
 
@@ -32,12 +33,12 @@ module _ (n : Numbers) (x : Index) where
   unfolding openOf
   opened-as e = ap (openedAs n) e
 
-  known : (r : Ruler) → r .numbers ≡ n → checkOutcome (scaleOf n) x ≡ Accepted → Open n x r
+  known : (r : Ruler) → r ≡ rulerOf n → checkOutcome (scaleOf n) x ≡ Accepted → Open n x r
   known r e q =
       let w = checked (scaleOf n) x q in
       record {
-        numbers = e;
-        good = rw e (sym (scale-good n) ∙ of-T (scaleOf n .good) (w .table .good));
+        numbers = ap (λ (k : Ruler). k .numbers) e;
+        good = rw e (made-of n (sym (scale-good n) ∙ of-T (scaleOf n .good) (w .table .good)));
         passes = rw e q;
         is-index = rw e (of-T (isIndex (scaleOf n) x) (to-isIndex (scaleOf n) x w));
       }
@@ -48,7 +49,7 @@ module _ (n : Numbers) (x : Index) where
   opened r e q = go (checkOutcome (scaleOf n) x) refl (sym e ∙ q)
     where
       go : (c : Outcome) → checkOutcome (scaleOf n) x ≡ c → openedAs n c ≡ Opens r → Open n x r
-      go Accepted p h = let e : r .numbers ≡ n = cc in known r e p
+      go Accepted p h = let e : r ≡ rulerOf n = cc in known r e p
       go (Refused why d) p h = let z : _≡_ {A = ℕ} 0 1 = cc in absurd (omega arith)
 
   -- the outcome that is told is the check's

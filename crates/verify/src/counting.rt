@@ -7,7 +7,7 @@ ghost use mathlib.Core.Path.{_≡_};
 ghost use mathlib.Core.Bool.{true};
 ghost use Prim.Native.Nat.{_/_, _≤_};
 ghost use lib.ListN.{length};
-ghost use Rattle.ruler.specs.Ruler.{mostTrips, inBounds, scale};
+ghost use Rattle.ruler.specs.Ruler.{mostTrips, Made, scale};
 ghost use Rattle.layout.specs.Words.{entryWords, rows};
 ghost use Rattle.layout.specs.Refusals.{fits};
 ghost use Rattle.verify.specs.Passing.{each};
@@ -15,7 +15,7 @@ ghost use Rattle.verify.specs.Local.{countsTo};
 
 // Whether n is the number of partitions that hold the trips of a part, which are known to fit.
 pub fn counts_to(ruler: Ruler, n: usize, part: &[u32]) -> bool
-    requires { ⌜ inBounds (ruler .numbers) ≡ true ⌝ }
+    requires { ⌜ Made ruler ⌝ }
     requires { ⌜ (length (now part) / entryWords ≤ mostTrips) × (each (fits (scale ruler)) (rows (now part)) ≡ true) ⌝ }
     ensures { λ r. ⌜ r ≡ countsTo (scale ruler) n (rows (now (part .entry))) ⌝ }
 {

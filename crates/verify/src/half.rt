@@ -17,7 +17,7 @@ ghost use mathlib.Core.Path.{_≡_};
 ghost use mathlib.Core.Bool.{true};
 ghost use Prim.Native.Nat.{_+_, _/_, _^_, _<_, _≤_};
 ghost use lib.ListN.{length, getD, drop};
-ghost use Rattle.ruler.specs.Ruler.{inBounds, scale};
+ghost use Rattle.ruler.specs.Ruler.{Made, scale};
 ghost use Rattle.layout.specs.Words.{entryWords, rows, order, partitionNumber, halfLength};
 ghost use Rattle.store.specs.Parts.{PartThere};
 ghost use Rattle.verify.specs.Passing.{inRow, rising, blank};
@@ -70,7 +70,7 @@ pub fn half_ok(dir: &[u32], arena: &[u32]) -> bool
 // Whether each of the n entries of a part may stand in a slot of this frame, and comes after the one before it in the order of its subdivision,
 // which is that of one number.
 fn in_row(ruler: Ruler, d: Subdivision, frame: Frame, part: &[u32], n: usize) -> bool
-    requires { ⌜ inBounds (ruler .numbers) ≡ true ⌝ }
+    requires { ⌜ Made ruler ⌝ }
     requires { ⌜ FrameAt (scale ruler .m) frame ⌝ }
     requires { ⌜ (n ≡ length (now part) / entryWords) × (0 < n) ⌝ }
     ensures { λ r. ⌜ r ≡ inRow (standsIn (scale ruler) frame) (order d) (rows (now (part .entry))) ⌝ }
@@ -97,7 +97,7 @@ fn in_row(ruler: Ruler, d: Subdivision, frame: Frame, part: &[u32], n: usize) ->
 
 // Whether slot k of a half, one of this partition's, is as it should be. Most slots have no entry.
 fn slot_at(ruler: Ruler, half: Half, partition: Cell, dir: &[u32], arena: &[u32], k: usize) -> bool
-    requires { ⌜ inBounds (ruler .numbers) ≡ true ⌝ }
+    requires { ⌜ Made ruler ⌝ }
     requires { ⌜ (partition .0 ≤ scale ruler .m) × (partition .1 < 2 ^ partition .0) × (k / 2 ≡ partitionNumber (partition .0) (partition .1)) ⌝ }
     requires { ⌜ PartThere (now dir) (now arena) k (k + 1) ⌝ }
     ensures { λ r. ⌜ r ≡ slotOk (scale ruler) half k (slotAt (now (dir .entry)) (now (arena .entry)) k) ⌝ }
@@ -116,7 +116,7 @@ fn slot_at(ruler: Ruler, half: Half, partition: Cell, dir: &[u32], arena: &[u32]
 
 // Whether every slot of a level of a half is. A level whose outer words are equal has no entry.
 fn level_ok(ruler: Ruler, half: Half, level: u32, dir: &[u32], arena: &[u32]) -> bool
-    requires { ⌜ (inBounds (ruler .numbers) ≡ true) × (level ≤ scale ruler .m) ⌝ }
+    requires { ⌜ Made ruler × (level ≤ scale ruler .m) ⌝ }
     requires { ⌜ length (now dir) ≡ halfLength (scale ruler .m) ⌝ }
     requires { ⌜ halfOk (now dir) (now arena) ≡ true ⌝ }
     ensures { λ r. ⌜ r ≡ levelOk (scale ruler) half level (now (dir .entry)) (now (arena .entry)) ⌝ }
@@ -140,7 +140,7 @@ fn level_ok(ruler: Ruler, half: Half, level: u32, dir: &[u32], arena: &[u32]) ->
 
 // Whether every slot of a half is.
 pub fn slots_ok(ruler: Ruler, half: Half, dir: &[u32], arena: &[u32]) -> bool
-    requires { ⌜ inBounds (ruler .numbers) ≡ true ⌝ }
+    requires { ⌜ Made ruler ⌝ }
     requires { ⌜ length (now dir) ≡ halfLength (scale ruler .m) ⌝ }
     requires { ⌜ halfOk (now dir) (now arena) ≡ true ⌝ }
     ensures { λ r. ⌜ r ≡ slotsOk (scale ruler) half (now (dir .entry)) (now (arena .entry)) ⌝ }

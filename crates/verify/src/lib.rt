@@ -19,7 +19,7 @@ ghost use mathlib.Core.Path.{_≡_};
 ghost use mathlib.Core.Bool.{true};
 ghost use Prim.Native.Nat.{_<_};
 ghost use lib.ListN.{length};
-ghost use Rattle.ruler.specs.Ruler.{inBounds, scaleOf, scale};
+ghost use Rattle.ruler.specs.Ruler.{Made, scaleOf, scale};
 ghost use Rattle.layout.specs.Words.{halfLength, directoryLength};
 ghost use Rattle.layout.specs.Refusals.{isIndex, checkOutcome};
 ghost use Rattle.layout.specs.Calls.{index};
@@ -41,7 +41,7 @@ fn halves_ok(o: &[u32], originals: &[u32], r: &[u32], replicas: &[u32]) -> bool
 
 // The tests over the slots of both halves.
 fn all_slots_ok(ruler: Ruler, o: &[u32], originals: &[u32], r: &[u32], replicas: &[u32]) -> bool
-    requires { ⌜ inBounds (ruler .numbers) ≡ true ⌝ }
+    requires { ⌜ Made ruler ⌝ }
     requires { ⌜ (length (now o) ≡ halfLength (scale ruler .m)) × (length (now r) ≡ halfLength (scale ruler .m)) ⌝ }
     requires { ⌜ halvesOk (now o) (now originals) (now r) (now replicas) ≡ true ⌝ }
     ensures { λ x. ⌜ x ≡ allSlotsOk (scale ruler) (now (o .entry)) (now (originals .entry)) (now (r .entry)) (now (replicas .entry)) ⌝ }
@@ -54,7 +54,7 @@ fn all_slots_ok(ruler: Ruler, o: &[u32], originals: &[u32], r: &[u32], replicas:
 
 // The tests over all trips.
 fn trips_ok(ruler: Ruler, o: &[u32], originals: &[u32], r: &[u32], replicas: &[u32]) -> bool
-    requires { ⌜ inBounds (ruler .numbers) ≡ true ⌝ }
+    requires { ⌜ Made ruler ⌝ }
     requires { ⌜ (length (now o) ≡ halfLength (scale ruler .m)) × (length (now r) ≡ halfLength (scale ruler .m)) ⌝ }
     requires { ⌜ halvesOk (now o) (now originals) (now r) (now replicas) ≡ true ⌝ }
     requires { ⌜ allSlotsOk (scale ruler) (now o) (now originals) (now r) (now replicas) ≡ true ⌝ }
@@ -71,7 +71,7 @@ fn trips_ok(ruler: Ruler, o: &[u32], originals: &[u32], r: &[u32], replicas: &[u
 
 // All tests, each group where the one before it passes.
 fn locally(ruler: Ruler, o: &[u32], originals: &[u32], r: &[u32], replicas: &[u32]) -> bool
-    requires { ⌜ inBounds (ruler .numbers) ≡ true ⌝ }
+    requires { ⌜ Made ruler ⌝ }
     requires { ⌜ (length (now o) ≡ halfLength (scale ruler .m)) × (length (now r) ≡ halfLength (scale ruler .m)) ⌝ }
     ensures { λ x. ⌜ x ≡ locally (scale ruler) (now (o .entry)) (now (originals .entry)) (now (r .entry)) (now (replicas .entry)) ⌝ }
 {
@@ -86,7 +86,7 @@ fn locally(ruler: Ruler, o: &[u32], originals: &[u32], r: &[u32], replicas: &[u3
 
 // Whether directory and arenas are the index of some table that build accepts for this ruler and these lengths.
 pub fn is_index(ruler: Ruler, directory: &[u32], originals: &[u32], replicas: &[u32]) -> bool
-    requires { ⌜ inBounds (ruler .numbers) ≡ true ⌝ }
+    requires { ⌜ Made ruler ⌝ }
     requires { ⌜ length (now directory) ≡ directoryLength (scale ruler .m) ⌝ }
     ensures { λ r. ⌜ r ≡ isIndex (scale ruler) (index (now (directory .entry)) (now (originals .entry)) (now (replicas .entry))) ⌝ }
 {

@@ -13,7 +13,7 @@ ghost use Prim.Native.Nat.{_+_, _/_};
 ghost use lib.Dec.{leb};
 ghost use lib.ListN.{length};
 ghost use Rattle.lists.specs.Sifting.{InOrder};
-ghost use Rattle.ruler.specs.Ruler.{inBounds, scale};
+ghost use Rattle.ruler.specs.Ruler.{Made, scale};
 ghost use Rattle.layout.specs.declared.Half.the-variants.{Originals};
 ghost use Rattle.layout.specs.declared.Subdivision.the-variants.{OIn};
 ghost use Rattle.layout.specs.Words.{entryWords, rows, order, halfLength};
@@ -73,7 +73,7 @@ fn slot_has(dir: &[u32], originals: &[u32], k: usize, t: Trip, key: u64) -> bool
 
 // Whether the original of a trip stands in its slot.
 fn is_known(ruler: Ruler, dir: &[u32], originals: &[u32], t: Trip, key: u64) -> bool
-    requires { ⌜ inBounds (ruler .numbers) ≡ true ⌝ }
+    requires { ⌜ Made ruler ⌝ }
     requires { ⌜ length (now dir) ≡ halfLength (scale ruler .m) ⌝ }
     requires { ⌜ (halfOk (now dir) (now originals) ≡ true) × (slotsOk (scale ruler) Originals (now dir) (now originals) ≡ true) ⌝ }
     requires { ⌜ (fits (scale ruler) t ≡ true) × (key ≡ keyBy (keyPlace OIn) t) ⌝ }
@@ -84,7 +84,7 @@ fn is_known(ruler: Ruler, dir: &[u32], originals: &[u32], t: Trip, key: u64) -> 
 
 // Whether the original of each trip of a part stands in its slot. The trips are known to fit.
 pub fn all_known(ruler: Ruler, dir: &[u32], originals: &[u32], part: &[u32]) -> bool
-    requires { ⌜ inBounds (ruler .numbers) ≡ true ⌝ }
+    requires { ⌜ Made ruler ⌝ }
     requires { ⌜ length (now dir) ≡ halfLength (scale ruler .m) ⌝ }
     requires { ⌜ (halfOk (now dir) (now originals) ≡ true) × (slotsOk (scale ruler) Originals (now dir) (now originals) ≡ true) ⌝ }
     requires { ⌜ each (fits (scale ruler)) (rows (now part)) ≡ true ⌝ }

@@ -5,9 +5,8 @@ use ruler::Ruler;
 use ruler::power;
 use trip::Trip;
 ghost use mathlib.Core.Path.{_≡_};
-ghost use mathlib.Core.Bool.{true};
 ghost use Prim.Native.Nat.{_^_, _<_, _≤_};
-ghost use Rattle.ruler.specs.Ruler.{deepest, inBounds, scale};
+ghost use Rattle.ruler.specs.Ruler.{deepest, Made, scale};
 ghost use Rattle.layout.specs.Refusals.{fits};
 ghost use Rattle.verify.specs.Frames.{hasCell, AtLevel, startsOf, endsOf, frameOf, FrameAt, standsIn};
 
@@ -100,22 +99,19 @@ pub fn frame_of(m: u32, half: Half, aft: bool, partition: Cell) -> Frame
     }
 }
 
-// Whether the trip passes tests 4 and 5. A start that is no later than an end on the ruler is on the ruler.
+// Whether the trip passes tests 4 and 5.
 pub fn fits(ruler: Ruler, t: Trip) -> bool
-    requires { ⌜ inBounds (ruler .numbers) ≡ true ⌝ }
+    requires { ⌜ Made ruler ⌝ }
     ensures { λ r. ⌜ r ≡ fits (scale ruler) t ⌝ }
 {
     let start = t.start;
     let end = t.end;
-    if !ruler.has(end) {
-        return false;
-    }
-    !end.before(start)
+    ruler.spans(start, end)
 }
 
 // Whether the trip may stand in a slot of this frame.
 pub fn stands(ruler: Ruler, frame: Frame, t: Trip) -> bool
-    requires { ⌜ inBounds (ruler .numbers) ≡ true ⌝ }
+    requires { ⌜ Made ruler ⌝ }
     requires { ⌜ FrameAt (scale ruler .m) frame ⌝ }
     ensures { λ r. ⌜ r ≡ standsIn (scale ruler) frame t ⌝ }
 {

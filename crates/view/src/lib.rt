@@ -22,7 +22,7 @@ ghost use mathlib.Core.Path.{_≡_};
 ghost use mathlib.Core.Bool.{true};
 ghost use Prim.Native.Nat.{_+_, _≤_, _<_};
 ghost use lib.ListN.{length, getD};
-ghost use Rattle.ruler.specs.Ruler.{inBounds, scaleOf, scale};
+ghost use Rattle.ruler.specs.Ruler.{Made, scaleOf, scale};
 ghost use Rattle.layout.specs.Refusals.{noSuchSlot, checkOutcome, runOutcome};
 ghost use Rattle.layout.specs.Calls.{index, censusOf, runOf, runFromOf};
 ghost use Rattle.view.specs.Views.{Readable, rowsOpened, placeAt, slotPlace, placeOf};
@@ -104,7 +104,7 @@ fn slot_place(directory: &[u32], at: usize) -> Place
 
 // Whether there is no such slot. The level is tested before a number is made of it.
 fn no_such_slot(ruler: Ruler, level: u32, partition: u32, subdivision: u32) -> bool
-    requires { ⌜ inBounds (ruler .numbers) ≡ true ⌝ }
+    requires { ⌜ Made ruler ⌝ }
     ensures { λ r. ⌜ r ≡ noSuchSlot (scale ruler) level partition subdivision ⌝ }
 {
     if ruler.bottom() < level {

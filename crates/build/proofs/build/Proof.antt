@@ -42,7 +42,7 @@ build-on-requires : tie.Need-build-on-requires
 build-on-requires c κs =
     let ruler = c .before .before .before .before .ruler .given in
     let made = judged-good _ (ruler .0 .0) (sym (c .before .before .before .before .before .before .new .ensures) ∙ ruler .1) in
-    rw (made .numbers) (made .good)
+    made .made
 
 same-length : tie.Need-same-length
 same-length c = search needs

@@ -41,7 +41,7 @@ directory-length-requires : tie.Need-directory-length-requires
 directory-length-requires c κs =
     let ruler = c .before .before .ruler .given in
     let made = judged-good _ (ruler .0 .0) (sym (c .before .before .before .before .new .ensures) ∙ ruler .1) in
-    rw (c .bottom .ensures) (deep-ruler (ruler .0 .0) (rw (made .numbers) (made .good)))
+    rw (c .bottom .ensures) (deep-ruler (ruler .0 .0) (made .made))
 
 returns-2 : tie.Need-returns-2
 unfolding openedAs
@@ -56,7 +56,7 @@ is-index-requires : tie.Need-is-index-requires
 is-index-requires c κs =
     let ruler = c .before .before .before .before .ruler .given in
     let made = judged-good _ (ruler .0 .0) (sym (new-before-else1 c .new .ensures) ∙ ruler .1) in
-    (rw (made .numbers) (made .good), c .if1 .left ∙ c .before .directory-length .ensures ∙ ap directoryLength (c .before .before .bottom .ensures))
+    (made .made, c .if1 .left ∙ c .before .directory-length .ensures ∙ ap directoryLength (c .before .before .bottom .ensures))
 
 returns-3 : tie.Need-returns-3
 unfolding refuse openedAs
@@ -76,7 +76,7 @@ returns-4 c =
     let bottom = c .before .before .before .before .bottom .ensures ∙ ap (λ (k : Numbers). scaleOf k .m) (made .numbers) in
     let long = c .before .before .before .directory-length .ensures ∙ ap directoryLength bottom in
     let passed = rw (made .numbers) at (sym (c .before .is-index .ensures) ∙ not-false _ (c .if2 .left)) in
-    ap (λ (k : Numbers). Opens (record { numbers = k })) (made .numbers)
+    ap Opens (made .is)
     ∙ opened-as _ _ (check-words _ _ true (scale-good _ ∙ made .good) (c .before .before .if1 .left ∙ long) passed)
 
 pub open-spec : {M : Type 1} → statement M

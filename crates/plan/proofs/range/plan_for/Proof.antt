@@ -1,7 +1,6 @@
 -- The window's cells and the ruler's own go to the table.
 use lib.Pow.{pow-pos}
-use Rattle.lists.proofs.Tests.{to-T}
-use Rattle.ruler.proofs.Fair.{scale-m}
+use Rattle.layout.proofs.RulerCells.{deep-ruler}
 use Rattle.plan.specs.Plan.{planFor}
 use native.Mathlib.Omega.{arith}
 use borrow.Author.Needs.{needs}
@@ -11,18 +10,18 @@ use Rattle.plan.proofs.range.plan_for.Tie as tie
 bottom-requires : tie.Need-bottom-requires
 bottom-requires c κs = search needs
 
-cell-requires : tie.Need-cell-requires
-cell-requires c κs = search needs
+bottom-cell-requires : tie.Need-bottom-cell-requires
+bottom-cell-requires c κs = let s = c .before in (s .pre .0, s .pre .1 .starts)
 
-cell-requires-2 : tie.Need-cell-requires-2
-cell-requires-2 c κs = search needs
+bottom-cell-requires-2 : tie.Need-bottom-cell-requires-2
+bottom-cell-requires-2 c κs = let s = c .before .before in (s .pre .0, s .pre .1 .ends)
 
 at-requires : tie.Need-at-requires
 at-requires c κs = search needs
 
 power-requires : tie.Need-power-requires
 power-requires c κs = let s = c .before .before .before .before in
-    omega (arith, c .before .before .before .bottom .ensures, scale-m (s .args .ruler .numbers) (to-T (s .pre)))
+    omega (arith, c .before .before .before .bottom .ensures, deep-ruler (s .args .ruler) (s .pre .0))
 
 sub-at : tie.Need-sub-at
 sub-at c = omega (arith, c .power .ensures, pow-pos (c .before .before .before .before .bottom .result))
@@ -40,8 +39,8 @@ returns c = rw (
   c .before .at2 .ensures,
   c .before .before .power .ensures,
   c .before .before .before .at .ensures,
-  c .before .before .before .before .cell2 .ensures,
-  c .before .before .before .before .before .cell .ensures,
+  c .before .before .before .before .bottom-cell2 .ensures,
+  c .before .before .before .before .before .bottom-cell .ensures,
   c .before .before .before .before .before .before .bottom .ensures,
 )
 
@@ -50,8 +49,8 @@ plan-for-spec =
     tie.close
     (tie.spec
     bottom-requires
-    cell-requires
-    cell-requires-2
+    bottom-cell-requires
+    bottom-cell-requires-2
     at-requires
     power-requires
     sub-at
