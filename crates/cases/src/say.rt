@@ -51,5 +51,5 @@ pub fn gives(
 }
 
 pub fn ruler(w: u32, m: u32) -> Numbers {
-    Numbers { w, m }
+    Numbers::Bits { w, m }
 }

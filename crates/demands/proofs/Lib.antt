@@ -6,4 +6,5 @@ pub mod Refusals
 pub mod Exact
 pub mod Edits
 pub mod Thirteen
+pub mod Rulers
 pub mod StandIns

@@ -193,7 +193,7 @@ fn open_line(
     if desk.started | (DEEPEST_HERE < m) {
         return bad_turn(desk, reply);
     }
-    let numbers = Numbers { w, m };
+    let numbers = Numbers::Bits { w, m };
     open_turn(desk, numbers, directory, originals, replicas, reply)
 }
 

@@ -71,7 +71,13 @@ pub extern "C" fn kheyambo_build(
         ⌜ left r (index (now (directory .exit)) (now (originals .exit)) (now (replicas .exit)))
         ≡ buildSaid w m (now (table .entry)) (index (now (directory .entry)) (now (originals .entry)) (now (replicas .entry))) ⌝ }
 {
-    in_numbers(build::build(Numbers { w, m }, table, directory, originals, replicas))
+    in_numbers(build::build(
+        Numbers::Bits { w, m },
+        table,
+        directory,
+        originals,
+        replicas,
+    ))
 }
 
 #[no_mangle]
@@ -84,7 +90,7 @@ pub extern "C" fn kheyambo_check(
 ) -> Said
     ensures { λ r. ⌜ r ≡ checkSaid w m (index (now (directory .entry)) (now (originals .entry)) (now (replicas .entry))) ⌝ }
 {
-    in_numbers(verify::check(Numbers { w, m }, directory, originals, replicas))
+    in_numbers(verify::check(Numbers::Bits { w, m }, directory, originals, replicas))
 }
 
 #[no_mangle]
@@ -103,7 +109,7 @@ pub extern "C" fn kheyambo_add(
         ≡ addSaid w m id start end (index (now (directory .entry)) (now (originals .entry)) (now (replicas .entry))) ⌝ }
 {
     let t = Trip::of(id, start, end);
-    in_numbers(edit::add(Numbers { w, m }, directory, originals, replicas, t))
+    in_numbers(edit::add(Numbers::Bits { w, m }, directory, originals, replicas, t))
 }
 
 #[no_mangle]
@@ -119,7 +125,7 @@ pub extern "C" fn kheyambo_remove(
         ⌜ left r (index (now (directory .exit)) (now (originals .exit)) (now (replicas .exit)))
         ≡ removeSaid w m id (index (now (directory .entry)) (now (originals .entry)) (now (replicas .entry))) ⌝ }
 {
-    in_numbers(edit::remove(Numbers { w, m }, directory, originals, replicas, id))
+    in_numbers(edit::remove(Numbers::Bits { w, m }, directory, originals, replicas, id))
 }
 
 #[no_mangle]
@@ -140,7 +146,7 @@ pub extern "C" fn kheyambo_ask<'a>(
 {
     let asking = Asking::of(code, start, end);
     let answered = ask::ask(
-        Numbers { w, m },
+        Numbers::Bits { w, m },
         directory,
         originals,
         replicas,
@@ -169,7 +175,7 @@ pub extern "C" fn kheyambo_census(
         ⌜ counted r (now (counts .exit))
         ≡ censusSaid w m (index (now (directory .entry)) (now (originals .entry)) (now (replicas .entry))) ⌝ }
 {
-    let opened = verify::open(Numbers { w, m }, directory, originals, replicas);
+    let opened = verify::open(Numbers::Bits { w, m }, directory, originals, replicas);
     let rows = view::rows_opened(opened, directory);
     *counts = rows;
     in_numbers(verify::outcome_of(opened))
@@ -190,7 +196,7 @@ pub extern "C" fn kheyambo_run<'a>(
     ensures { λ r. ⌜ r ≡ runSaid w m level partition subdivision (index (now (directory .entry)) (now (originals .entry)) (now (replicas .entry))) ⌝ }
 {
     let place = view::run_place(
-        Numbers { w, m },
+        Numbers::Bits { w, m },
         directory,
         originals,
         replicas,

@@ -43,7 +43,7 @@ pub fn begin() -> Standing
     Standing {
         desk: Desk {
             started: false,
-            numbers: Numbers { w: 0, m: 0 },
+            numbers: Numbers::Bits { w: 0, m: 0 },
         },
         line: [0u8; LINE],
         held: 0,

@@ -37,5 +37,6 @@ pub mod EditsBuild
 pub mod Given
 pub mod Left
 pub mod Reordered
+pub mod TwoRulers
 -- document 01's examples
 pub mod Starred

@@ -1,4 +1,4 @@
--- The starred examples of document 01, as one statement over one list of them: all but the night's index by computing.
+-- The starred examples of document 01, and those of T-09, as one statement over one list of them: all but the night's index by computing.
 use mathlib.Core.Path.{_≡_, refl}
 use mathlib.Core.List.{List, [], _∷_}
 use Prim.Native.Nat.{ℕ}
@@ -15,7 +15,7 @@ use Rattle.layout.specs.Words.{tripWords, tripAt, words, rows, partition
 use Rattle.layout.specs.Answers.{matches, answer, question, answerBy, answerTo, subdivisionNumber, subdivisionNumbered, levelCount, levelRow, census, halfOf, isAft, runWords, runFrom}
 use Rattle.layout.specs.Refusals.{isAccepted, refuse, outOfBounds, badSize, full, badDirectory, offRuler, backward, hasId, noRoom, exceeds, noSuchCode, noSuchSlot, timeTests, rowTests, firstBadRow, buildOutcome, tableOf, sameIndex, gives, isIndex, indexTests, addOutcome, removeOutcome, windowTests, questionTests, roomTest, askOutcome, runOutcome, checkOutcome}
 use Rattle.layout.specs.Calls.{ifAccepted, leaving, buildOf, addOf, without, removeOf, askOf, noCensus, censusOf, runOf, runFromOf}
-use Rattle.layout.specs.Examples.{ruler, seven, three, nine, four, theIndex, cells, stored, inAll, is, lists, refuses, night, nightLists, asRow, asWindow, AllHold, none, more, starred, fullness}
+use Rattle.layout.specs.Examples.{ruler, seven, three, nine, four, theIndex, cells, stored, inAll, is, lists, refuses, night, nightLists, asRow, asWindow, spread, service, daytime, AllHold, none, more, starred, fullness}
 use Rattle.layout.proofs.Left.{built-asked}
 
 -- what the night's index lists, whatever the buffers: its ids are those of the table, which compute
@@ -38,7 +38,7 @@ unfolding every same count padded keep insert sort joined upTo inBounds scaleOf 
     outOfBounds badSize full badDirectory offRuler backward hasId noRoom exceeds noSuchCode partitionsHolding noSuchSlot timeTests rowTests
     firstBadRow buildOutcome tableOf sameIndex gives isIndex indexTests addOutcome removeOutcome windowTests questionTests roomTest askOutcome runOutcome
     checkOutcome ifAccepted leaving buildOf addOf without removeOf askOf noCensus censusOf runOf runFromOf ruler seven three nine four
-    theIndex cells stored inAll is lists refuses night asRow asWindow starred
+    theIndex cells stored inAll is lists refuses night asRow asWindow spread service daytime starred
 starred-hold =
     (refl, refl) also tt also tt also tt also refl
     also tt also refl also tt also refl also tt also tt also refl
@@ -47,6 +47,13 @@ starred-hold =
     also refl also refl
     also (refl, refl) also (refl, refl) also (refl, refl) also (refl, refl)
     also (refl, refl) also night-lists _ _ _ refl refl also night-lists _ _ _ refl refl also (refl, refl) also (refl, refl)
+    also (refl, refl) also (refl, refl) also (refl, refl)
+    also (refl, refl) also (refl, refl)
+    also (refl, refl)
+    also (refl, refl) also (refl, refl)
+    also (refl, refl) also tt also refl
+    also (refl, refl) also tt also tt also tt also tt also refl
+    also (refl, refl) also (refl, refl)
     also none
 
 -- the edge of a full index, computed on tables of 4,095 and 4,096 trips

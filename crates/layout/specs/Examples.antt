@@ -1,5 +1,5 @@
--- Document 01, "Checked examples": the starred ones, in one list of statements. That all of them hold is one statement
--- (proofs/Starred.antt). The others are run by the program `cases`.
+-- Document 01, "Checked examples": the starred ones, in one list of statements, and after them five for the second ruler (document 02, T-09). That all of
+-- them hold is one statement (proofs/Starred.antt). The others are run by the program `cases`.
 use mathlib.Core.Path.{_≡_}
 use mathlib.Core.Bool.{Bool, not}
 use mathlib.Core.List.{List, [], _∷_}
@@ -7,6 +7,7 @@ use Prim.Native.Nat.{ℕ, _≤_}
 use lib.Dec.{T}
 use lib.ListN.{length, replicate}
 use Rattle.lists.specs.Lists.{over}
+use Rattle.ruler.specs.declared.Numbers.the-variants.{Spread}
 use Rattle.ruler.specs.Ruler.{Scale, timeAt, scaleOf, numbersOf}
 use Rattle.trip.specs.declared.Trip.{Trip}
 use Rattle.trip.specs.declared.Relationship.{Relationship}
@@ -19,7 +20,7 @@ use Rattle.layout.specs.declared.Outcome.{Outcome}
 use Rattle.layout.specs.declared.Outcome.the-variants.{Accepted}
 use Rattle.layout.specs.Stored.{belongs}
 use Rattle.layout.specs.Words.{Index, words, directoryLength, partitionsHolding, layout}
-use Rattle.layout.specs.Refusals.{numberOf, detailOf, full, buildOutcome, windowTests, askOutcome}
+use Rattle.layout.specs.Refusals.{numberOf, detailOf, full, buildOutcome, windowTests, askOutcome, checkOutcome}
 use Rattle.layout.specs.Calls.{buildOf, asked, askOf}
 
 -- ---- "Ruler w = 6, m = 4; trips 7 [21,38], 3 [20,20], 9 [0,63], 4 [39,40]."
@@ -45,16 +46,16 @@ theIndex = layout (ruler 6 4) (seven ∷ three ∷ nine ∷ four ∷ []) (record
 
 -- ---- the statements
 
--- the trip's cells at level m are a..b
-unfoldable pub cells : Trip → (a b : ℕ) → Type 0
-cells t a b = (ruler 6 4 .cell (t .start) ≡ a) × (ruler 6 4 .cell (t .end) ≡ b)
+-- on a ruler the trip's cells at level m are a..b
+unfoldable pub cells : Scale → Trip → (a b : ℕ) → Type 0
+cells s t a b = (s .cell (t .start) ≡ a) × (s .cell (t .end) ≡ b)
 
 -- the trip has an entry in partition i of level L, under this subdivision; and n entries in all
-unfoldable pub stored : Trip → (L i : ℕ) → Subdivision → Type 0
-stored t L i d = T (belongs (ruler 6 4) d L i t)
+unfoldable pub stored : Scale → Trip → (L i : ℕ) → Subdivision → Type 0
+stored s t L i d = T (belongs s d L i t)
 
-unfoldable pub inAll : Trip → (n : ℕ) → Type 0
-inAll t n = partitionsHolding (ruler 6 4) t ≡ n
+unfoldable pub inAll : Scale → Trip → (n : ℕ) → Type 0
+inAll s t n = partitionsHolding s t ≡ n
 
 -- an outcome is this number with this detail
 unfoldable pub is : Outcome → (number detail : ℕ) → Type 0
@@ -83,11 +84,23 @@ nightLists s e ids =
     ≡ asked Accepted (length ids) (over ids list)
 
 -- a trip as the only row of a table, and a window with these times
-unfoldable pub asRow : Trip → Outcome
-asRow t = buildOutcome (ruler 18 10) (words (t ∷ [])) (record { directory = directoryLength 10; originals = 3; replicas = 60 })
+unfoldable pub asRow : Scale → Trip → Outcome
+asRow s t = buildOutcome s (words (t ∷ [])) (record { directory = directoryLength (s .m); originals = 3; replicas = 60 })
 
 unfoldable pub asWindow : (start end : ℕ) → Outcome
 asWindow s e = windowTests (ruler 18 10) (windowOf s e) Accepted
+
+-- ---- the second ruler: a service day from 4:00 to 28:00 with 16 cells, so that 5,760 seconds make a cell and only 28:00:00 is in the last
+
+unfoldable pub spread : (m lo hi : ℕ) → Scale
+spread m lo hi = scaleOf (Spread m lo hi)
+
+unfoldable pub service : Scale
+service = spread 4 14400 100800
+
+-- 8:00 to 20:30: (28800 − 14400) × 15 / 86400 is 2 and a half, (73800 − 14400) × 15 / 86400 is 10 and five sixteenths
+unfoldable pub daytime : Trip
+daytime = tripOf 2 28800 73800
 
 -- ---- the starred examples
 
@@ -99,22 +112,22 @@ pub data AllHold : List (Type 0) → Type 1 where
 unfoldable pub starred : List (Type 0)
 starred =
     -- "Trip 7 has cells 5..9 (000, 003): level 4 partition 5 O_aft; level 3 partition 3 R_aft, partition 4 R_in."
-    cells seven 5 9
-    ∷ stored seven 4 5 OAft
-    ∷ stored seven 3 3 RAft
-    ∷ stored seven 3 4 RIn
-    ∷ inAll seven 3
+    cells (ruler 6 4) seven 5 9
+    ∷ stored (ruler 6 4) seven 4 5 OAft
+    ∷ stored (ruler 6 4) seven 3 3 RAft
+    ∷ stored (ruler 6 4) seven 3 4 RIn
+    ∷ inAll (ruler 6 4) seven 3
     -- "Trip 3: level 4 partition 5 O_in." "Trip 9: level 0 O_in." "Trip 4: level 4 partition 9 O_aft, 10 R_in."
-    ∷ stored three 4 5 OIn
-    ∷ inAll three 1
-    ∷ stored nine 0 0 OIn
-    ∷ inAll nine 1
-    ∷ stored four 4 9 OAft
-    ∷ stored four 4 10 RIn
-    ∷ inAll four 2
+    ∷ stored (ruler 6 4) three 4 5 OIn
+    ∷ inAll (ruler 6 4) three 1
+    ∷ stored (ruler 6 4) nine 0 0 OIn
+    ∷ inAll (ruler 6 4) nine 1
+    ∷ stored (ruler 6 4) four 4 9 OAft
+    ∷ stored (ruler 6 4) four 4 10 RIn
+    ∷ inAll (ruler 6 4) four 2
     -- "Code 13 [22,23]: 7, 9. Trip 3 shares the cell and is not listed."
     ∷ lists GOverlaps 22 23 (7 ∷ 9 ∷ [])
-    ∷ cells three 5 5
+    ∷ cells (ruler 6 4) three 5 5
     ∷ (ruler 6 4 .cell (timeAt 22) ≡ 5)
     -- "Code 13 [38,39]: 4, 7, 9." "BEFORE [0,20]: 4, 7." "AFTER [39,63]: 3, 7."
     ∷ lists GOverlaps 38 39 (4 ∷ 7 ∷ 9 ∷ [])
@@ -129,11 +142,36 @@ starred =
     ∷ refuses 63 63 0
     ∷ refuses 63 64 4
     -- "w = 18, m = 10: 23:40:00 to 25:10:00 is [85200,90600], found by [88200,88800] and not by [1800,2400]. Wrapped, [85200,4200] gives 5."
-    ∷ is (asRow night) 0 0
+    ∷ is (asRow (ruler 18 10) night) 0 0
     ∷ nightLists 88200 88800 (1 ∷ [])
     ∷ nightLists 1800 2400 []
-    ∷ is (asRow (tripOf 1 85200 4200)) 5 0
+    ∷ is (asRow (ruler 18 10) (tripOf 1 85200 4200)) 5 0
     ∷ is (asWindow 85200 4200) 5 0
+    -- T-09: lo and hi are on the ruler, and hi alone has the last cell
+    ∷ cells service (tripOf 1 14400 100800) 0 15
+    ∷ cells service (tripOf 1 14401 100799) 0 14
+    ∷ is (asRow service (tripOf 1 14400 100800)) 0 0
+    -- "Times outside lo..hi get 4"
+    ∷ is (asRow service (tripOf 1 14399 100800)) 4 0
+    ∷ is (asRow service (tripOf 1 14400 100801)) 4 0
+    -- "a bad lo, hi or m gets 1": lo = hi
+    ∷ is (asRow (spread 4 14400 14400) (tripOf 1 14400 14400)) 1 0
+    -- hi = 2^24, and the last hi allowed
+    ∷ is (asRow (spread 4 14400 16777216) night) 1 0
+    ∷ is (asRow (spread 4 14400 16777215) night) 0 0
+    -- the night trip has the cells 12 and 13, which are one partition of level 3; the one from 8:00 to 20:30 has the cells 2..10
+    ∷ cells service night 12 13
+    ∷ stored service night 3 6 OIn
+    ∷ inAll service night 1
+    ∷ cells service daytime 2 10
+    ∷ stored service daytime 3 1 OAft
+    ∷ stored service daytime 2 1 RAft
+    ∷ stored service daytime 3 4 RAft
+    ∷ stored service daytime 4 10 RIn
+    ∷ inAll service daytime 4
+    -- "the words carry none, and 8 is judged for that ruler": the words of the first examples, under the ruler that spreads 16 cells over the same times
+    ∷ is (checkOutcome (ruler 6 4) theIndex) 0 0
+    ∷ is (checkOutcome (spread 4 0 63) theIndex) 8 0
     ∷ []
 
 -- 2 "add: 4,096 trips already": tables of 4,095 and of 4,096 trips

@@ -56,7 +56,7 @@ refuse false why detail rest = rest
 
 -- ---- the column "Given exactly when"
 
--- 1 "w or m outside the ruler's bounds"
+-- 1 "w or m outside the ruler's bounds"; T-09: "a bad lo, hi or m gets 1"
 unfoldable pub outOfBounds : Scale → Bool
 outOfBounds s = not (s .good)
 
@@ -71,7 +71,7 @@ full ts = leb mostTrips (length ts)
 unfoldable pub badDirectory : Scale → (length : ℕ) → Bool
 badDirectory s n = not (eqb n (directoryLength (s .m)))
 
--- 4 "a start or end is 2^w or more"
+-- 4 "a start or end is 2^w or more"; T-09: "Times outside lo..hi get 4"
 unfoldable pub offRuler : Scale → (start end : Time) → Bool
 offRuler s start end = not (s .has start && s .has end)
 

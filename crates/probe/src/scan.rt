@@ -91,7 +91,7 @@ pub fn numbers_at(line: &[u8], at: usize, count: usize) -> Fields {
     let b = number_if(line, a.next, 3 < count);
     let c = number_if(line, b.next, 4 < count);
     Fields {
-        ruler: Numbers {
+        ruler: Numbers::Bits {
             w: w.value,
             m: m.value,
         },

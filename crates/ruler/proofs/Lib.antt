@@ -2,6 +2,7 @@
 pub mod CellLevels
 pub mod Fair
 pub mod RulerMade
+pub mod Shares
 pub mod Shift
 pub mod Small
 pub mod Zeros

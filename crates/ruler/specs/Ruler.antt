@@ -7,6 +7,7 @@ use lib.Count.{trailingZeros}
 use Rattle.ruler.specs.declared.Time.{Time}
 use Rattle.ruler.specs.declared.Cell.{Cell}
 use Rattle.ruler.specs.declared.Numbers.{Numbers}
+use Rattle.ruler.specs.declared.Numbers.the-variants.{Bits, Spread}
 use Rattle.ruler.specs.declared.Ruler.{Ruler}
 use Rattle.ruler.specs.declared.Judged.{Judged}
 use Rattle.ruler.specs.declared.Judged.the-variants.{Good, OutOfBounds}
@@ -38,16 +39,19 @@ deepest = 10
 abbrev pub mostTrips : ℕ
 mostTrips = 4096
 
--- "A ruler has w, 1 to 24, and m, 0 to 10 and at most w."
+-- "A ruler has w, 1 to 24, and m, 0 to 10 and at most w." Document 02, T-09: "Beside the present ruler add one with lo and hi, lo < hi < 2^24"; its m is
+-- 0 to 10, whatever hi − lo is.
 unfoldable pub inBounds : Numbers → Bool
-inBounds n = leb 1 (n .w) && leb (n .w) widest && leb (n .m) deepest && leb (n .m) (n .w)
+inBounds (Bits w m) = leb 1 w && leb w widest && leb m deepest && leb m w
+inBounds (Spread m lo hi) = leb m deepest && ltb lo hi && ltb hi (2 ^ widest)
 
--- the numbers that a caller names a ruler by, and the deepest level that they name
+-- the numbers that a caller names a ruler of the first kind by, and the deepest level that numbers name
 abbrev pub numbersOf : (w m : ℕ) → Numbers
-numbersOf w m = record { w = w; m = m }
+numbersOf w m = Bits w m
 
 abbrev pub bottomOf : Numbers → ℕ
-bottomOf n = n .m
+bottomOf (Bits w m) = m
+bottomOf (Spread m lo hi) = m
 
 -- All that the index knows of a ruler: whether its numbers are in bounds, the number m of its deepest level, which raw times it has,
 -- and the level-m cell of a time. Only this file says how a ruler makes its scale.
@@ -59,12 +63,20 @@ pub record Scale : Type 0 where
 
 -- "Raw times run from 0 to 2^w − 1." "The cell of time t at level L is the whole part of t / 2^(w − L)": here at level m; at each
 -- other level it is `cellUp`, and the law `cell-at-level` says that this is the whole part of t / 2^(w − L).
+-- T-09: "the level-m cell of t is the whole part of (t − lo) × (2^m − 1) / (hi − lo), and each step from level m towards 0 halves it. Times outside
+-- lo..hi get 4, a bad lo, hi or m gets 1."
 unfoldable pub scaleOf : Numbers → Scale
-scaleOf n = record {
-  good = inBounds n;
-  m = bottomOf n;
-  has = λ t. ltb (t .0) (2 ^ n .w);
-  cell = λ t. t .0 / 2 ^ (n .w - n .m);
+scaleOf (Bits w m) = record {
+  good = inBounds (Bits w m);
+  m = m;
+  has = λ t. ltb (t .0) (2 ^ w);
+  cell = λ t. t .0 / 2 ^ (w - m);
+}
+scaleOf (Spread m lo hi) = record {
+  good = inBounds (Spread m lo hi);
+  m = m;
+  has = λ t. leb lo (t .0) && leb (t .0) hi;
+  cell = λ t. (t .0 - lo) * (2 ^ m - 1) / (hi - lo);
 }
 
 abbrev pub scale : Ruler → Scale
@@ -140,8 +152,33 @@ cellRank c = 2 ^ c .0 - 1 + c .1
 
 -- ---- a ruler
 
+-- what it keeps beside its numbers: its first and last time
+unfoldable pub firstOf : Numbers → ℕ
+firstOf (Bits w m) = 0
+firstOf (Spread m lo hi) = lo
+
+unfoldable pub lastOf : Numbers → ℕ
+lastOf (Bits w m) = 2 ^ w - 1
+lastOf (Spread m lo hi) = hi
+
+-- And what a second counts for, so that a cell takes a product and no division. On either kind the cells climb so many steps over so many seconds (the law
+-- `cell-climbs`). A second's share of a cell is counted in parts, 2^48 to the cell, and one part is added, so that no cell comes out too low (the law `by-shares`).
+unfoldable pub stepsOf : Numbers → ℕ
+stepsOf (Bits w m) = 2 ^ m
+stepsOf (Spread m lo hi) = 2 ^ m - 1
+
+unfoldable pub spanOf : Numbers → ℕ
+spanOf (Bits w m) = 2 ^ w
+spanOf (Spread m lo hi) = hi - lo
+
+abbrev pub shareBits : ℕ
+shareBits = 48
+
+unfoldable pub shareOf : Numbers → ℕ
+shareOf n = stepsOf n * 2 ^ shareBits / spanOf n + 1
+
 abbrev pub rulerOf : Numbers → Ruler
-rulerOf n = record { numbers = n }
+rulerOf n = record { numbers = n; first = firstOf n; last = lastOf n; share = shareOf n }
 
 -- the ruler of some numbers, or the refusal of them
 unfoldable pub judge : Numbers → Judged

@@ -6,6 +6,8 @@ ghost use Rattle.ruler.specs.Ruler.{timeAt, before, sameTime, noLater, n
 ghost use Rattle.ruler.specs.Ruler.{cellOf, bottomCell, sameCell, noLaterCell, nextCell, cellAbove, cellIn, parity, firstOfTwo};
 ghost use Rattle.ruler.specs.Ruler.{firstIn, lastIn, begins, levelsBegun, pieces, cellRank};
 
+mod kinds;
+
 // A raw time: whole seconds on the service day, which may pass 24:00:00. Its field is private: outside this crate a time can only be given
 // to the functions below, of which none but `Ruler::bottom_cell` has to do with cells. Its number leaves it by `seconds`,
 // which is called only where an entry's words are written (store/src/entry.rt).
@@ -56,6 +58,9 @@ const TOP_DIGIT: u32 = 31;
 
 // Two numbers below it stand in one word.
 const HALF_WORD: u32 = 65536;
+
+// A second's share of a cell is counted in parts, 2 ^ 48 to the cell.
+const SHARE_BITS: u32 = 48;
 
 // A cell at a level: the level, and the cell's number there. A partition is the cell of its level that it covers. A range of cells that goes
 // to a level's last ends at the cell one past it. The fields are private, and cells are compared at one level only. A cell's number leaves it
@@ -200,10 +205,10 @@ impl Cell {
     }
 }
 
-// What a caller names a ruler by: its numbers, not yet judged.
-pub struct Numbers {
-    pub w: u32,
-    pub m: u32,
+// What a caller names a ruler by: its numbers, not yet judged. The first kind has w and m; the second is spread over the times lo to hi.
+pub enum Numbers {
+    Bits { w: u32, m: u32 },
+    Spread { m: u32, lo: u32, hi: u32 },
 }
 
 impl Numbers {
@@ -211,13 +216,20 @@ impl Numbers {
     pub fn bottom(self) -> u32
         ensures { λ r. ⌜ r ≡ bottomOf self ⌝ }
     {
-        self.m
+        match self {
+            Numbers::Bits { w: _, m } => m,
+            Numbers::Spread { m, lo: _, hi: _ } => m,
+        }
     }
 }
 
-// A ruler whose numbers were in bounds when it was made.
+// A ruler whose numbers were in bounds when it was made. Which kind it is was asked then, and never again: it keeps its first and last time, and
+// what a second counts for, so that a cell takes one product and no division.
 pub struct Ruler {
     numbers: Numbers,
+    first: u32,
+    last: u32,
+    share: u64,
 }
 
 pub enum Judged {
@@ -235,19 +247,23 @@ impl Ruler {
     pub fn new(numbers: Numbers) -> Judged
         ensures { λ r. ⌜ r ≡ judge numbers ⌝ }
     {
-        let w = numbers.w;
-        let m = numbers.m;
-        if (1 <= w) & (w <= Self::WIDEST) & (m <= Self::DEEPEST) & (m <= w) {
-            return Judged::Good(Ruler { numbers });
+        if !kinds::in_bounds(numbers) {
+            return Judged::OutOfBounds;
         }
-        Judged::OutOfBounds
+        Judged::Good(Ruler {
+            numbers,
+            first: kinds::first_of(numbers),
+            last: kinds::last_of(numbers),
+            share: kinds::share_of(numbers),
+        })
     }
 
     // The number m of the deepest level.
     pub fn bottom(self) -> u32
         ensures { λ r. ⌜ r ≡ scale self .m ⌝ }
     {
-        self.numbers.bottom()
+        let numbers = self.numbers;
+        numbers.bottom()
     }
 
     // Whether a raw time is on the ruler.
@@ -255,17 +271,15 @@ impl Ruler {
         requires { ⌜ Made self ⌝ }
         ensures { λ r. ⌜ r ≡ scale self .has t ⌝ }
     {
-        let w = self.numbers.w;
-        t.0 < power(w)
+        (self.first <= t.0) & (t.0 <= self.last)
     }
 
-    // Whether both times are on the ruler, the first no later than the second: then the first can't be past its end.
+    // Whether both times are on the ruler, the first no later than the second: then the one can't be past its end, nor the other before its start.
     pub fn spans(self, start: Time, end: Time) -> bool
         requires { ⌜ Made self ⌝ }
         ensures { λ r. ⌜ r ≡ spans (scale self) start end ⌝ }
     {
-        let w = self.numbers.w;
-        (start.0 <= end.0) & (end.0 < power(w))
+        (self.first <= start.0) & (start.0 <= end.0) & (end.0 <= self.last)
     }
 
     // The level-m cell of a time.
@@ -274,9 +288,8 @@ impl Ruler {
         requires { ⌜ T (scale self .has t) ⌝ }
         ensures { λ r. ⌜ r ≡ bottomCell (scale self) t ⌝ }
     {
-        let w = self.numbers.w;
-        let m = self.numbers.m;
-        Cell(m, t.0 >> (w - m))
+        let shares = (t.0 - self.first) as u64 * self.share;
+        Cell(self.bottom(), (shares >> SHARE_BITS) as u32)
     }
 }
 

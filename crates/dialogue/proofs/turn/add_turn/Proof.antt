@@ -15,7 +15,7 @@ abbrev directory-words-before-goes-on : tie.After-goes-on → tie.After-director
 directory-words-before-goes-on c = directory-before-put-outcome-call (c .before .before .before .before) .before .before .before .before .before
 
 abbrev start-before-goes-on : tie.After-goes-on → tie.Start
-start-before-goes-on c = directory-words-before-goes-on c .before .before .before .before .before .before
+start-before-goes-on c = directory-words-before-goes-on c .before .before .before .before .before
 
 directory-words-requires : tie.Need-directory-words-requires
 directory-words-requires c κs = search needs
@@ -27,7 +27,7 @@ part-add-start : tie.Need-part-add-start
 part-add-start c = search needs
 
 part-add-end : tie.Need-part-add-end
-part-add-end c = let g = c .before .before .before .before .before .before in
+part-add-end c = let g = c .before .before .before .before .before in
     in-front (g .args .desk .numbers) (g .args .directory .now) (c .directory-words .ensures) (g .pre .0) (g .pre .1)
 
 add-requires : tie.Need-add-requires

@@ -17,7 +17,7 @@ abbrev ask-before-answers2 : tie.After-answers2 → tie.After-ask
 ask-before-answers2 c = c .before .before .before .before .before
 
 abbrev start-before-answers2 : tie.After-answers2 → tie.Start
-start-before-answers2 c = start-before-body (ask-before-answers2 c .before .before .before .before .before)
+start-before-answers2 c = start-before-body (ask-before-answers2 c .before .before .before .before)
 
 directory-words-requires : tie.Need-directory-words-requires
 directory-words-requires c κs = search needs
@@ -29,7 +29,7 @@ part-ask-start : tie.Need-part-ask-start
 part-ask-start c = search needs
 
 part-ask-end : tie.Need-part-ask-end
-part-ask-end c = let g = start-before-body (c .before .before) in
+part-ask-end c = let g = start-before-body (c .before) in
     in-front (g .args .desk .numbers) (g .args .directory .now) (c .directory-words .ensures) (g .pre .0) (g .pre .1)
 
 ask-requires : tie.Need-ask-requires

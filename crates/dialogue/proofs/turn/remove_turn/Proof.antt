@@ -15,7 +15,7 @@ abbrev directory-words-before-goes-on : tie.After-goes-on → tie.After-director
 directory-words-before-goes-on c = directory-before-put-outcome-call (c .before .before .before .before) .before .before .before .before .before
 
 abbrev start-before-goes-on : tie.After-goes-on → tie.Start
-start-before-goes-on c = directory-words-before-goes-on c .before .before .before .before .before .before
+start-before-goes-on c = directory-words-before-goes-on c .before .before .before .before .before
 
 directory-words-requires : tie.Need-directory-words-requires
 directory-words-requires c κs = search needs
@@ -27,7 +27,7 @@ part-remove-start : tie.Need-part-remove-start
 part-remove-start c = search needs
 
 part-remove-end : tie.Need-part-remove-end
-part-remove-end c = let g = c .before .before .before .before .before .before in
+part-remove-end c = let g = c .before .before .before .before .before in
     in-front (g .args .desk .numbers) (g .args .directory .now) (c .directory-words .ensures) (g .pre .0) (g .pre .1)
 
 remove-requires : tie.Need-remove-requires
