@@ -4,8 +4,8 @@ ghost use mathlib.Core.Path.{_≡_};
 ghost use Prim.Native.Nat.{_≤_};
 ghost use lib.ListN.{length};
 
-// What is kept of a line. The longest call is a build with every buffer full: its name and 92,806 numbers of at most ten digits, each after
-// a space, are 1,020,871 bytes. So a line that fills this is no call.
+// What is kept of a line. The longest call is a build under the second ruler with every buffer full: its name, the ruler's word after a space, and
+// 92,807 numbers of at most ten digits, each after a space, are 1,020,889 bytes. So a line that fills this is no call.
 pub const LINE: usize = 1100000;
 
 // How much is read at once.

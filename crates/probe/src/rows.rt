@@ -1,5 +1,6 @@
-// The table of the calls. A line is the call's name, its numbers, the buffers that it only reads and those that it may write; its answer is
-// the number, the detail, what else it gives and the buffers that it may write. A row says how many numbers and which buffers; `calls` has what is called.
+// The table of the calls. A line is the call's name, its ruler, its numbers, the buffers that it only reads and those that it may write; its
+// answer is the number, the detail, what else it gives and the buffers that it may write. A row says how many numbers come after the ruler, and
+// which buffers; `calls` has what is called.
 use crate::scan;
 use layout::ENTRY_WORDS;
 
@@ -50,8 +51,8 @@ pub struct Rooms {
     pub third: usize,
 }
 
-// What is called, where its numbers begin in the line, how many they are, its ruler's among them, which buffers it only reads, which it may
-// write, and what it gives.
+// What is called, where its ruler begins in the line, how many numbers come after the ruler, which buffers it only reads, which it may write,
+// and what it gives.
 pub struct Row {
     pub call: Call,
     pub at: usize,
@@ -61,28 +62,13 @@ pub struct Row {
     pub gives: Gives,
 }
 
-// Whether two runs of bytes are the same.
-fn same(a: &[u8], b: &[u8]) -> bool {
-    if a.len() != b.len() {
-        return false;
-    }
-    let mut i: usize = 0;
-    while i < a.len() {
-        if a[i] != b[i] {
-            return false;
-        }
-        i += 1;
-    }
-    true
-}
-
 // Which of the names, parted by spaces, a word is, from 0. Where it is none, it is how many there are.
 fn place_of(word: &[u8], names: &[u8]) -> usize {
     let mut place: usize = 0;
     let mut from: usize = 0;
     while from < names.len() {
         let end = scan::field_end(names, from);
-        if same(word, &names[from..end]) {
+        if scan::same(word, &names[from..end]) {
             return place;
         }
         from = end + 1;
@@ -117,13 +103,13 @@ fn row_at(place: usize, at: usize, nowhere: usize) -> Row {
     let index = lent(DIRECTORY, ORIGINALS, REPLICAS);
     let answers = lent(ANSWERS, 0, 0);
     match place {
-        0 => row_of(Call::Build, at, 2, table, index, Gives::Nothing),
-        1 => row_of(Call::Check, at, 2, index, none, Gives::Nothing),
-        2 => row_of(Call::Add, at, 5, none, index, Gives::Nothing),
-        3 => row_of(Call::Remove, at, 3, none, index, Gives::Nothing),
-        4 => row_of(Call::Ask, at, 5, index, answers, Gives::Count),
-        5 => row_of(Call::Run, at, 5, index, none, Gives::Run),
-        6 => row_of(Call::Census, at, 2, index, none, Gives::Census),
+        0 => row_of(Call::Build, at, 0, table, index, Gives::Nothing),
+        1 => row_of(Call::Check, at, 0, index, none, Gives::Nothing),
+        2 => row_of(Call::Add, at, 3, none, index, Gives::Nothing),
+        3 => row_of(Call::Remove, at, 1, none, index, Gives::Nothing),
+        4 => row_of(Call::Ask, at, 3, index, answers, Gives::Count),
+        5 => row_of(Call::Run, at, 3, index, none, Gives::Run),
+        6 => row_of(Call::Census, at, 0, index, none, Gives::Census),
         _ => row_of(Call::Unknown, nowhere, 0, none, none, Gives::Nothing),
     }
 }

@@ -12,13 +12,19 @@ pub struct Field {
     pub next: usize,
 }
 
+// A ruler read, and where the next field begins.
+struct RulerField {
+    ruler: Numbers,
+    next: usize,
+}
+
 // Where the words of a buffer end, and where the next field begins.
 pub struct Words {
     pub end: usize,
     pub next: usize,
 }
 
-// The numbers of a call: its ruler's and up to three more. Those that it has not are 0.
+// The ruler of a call, and up to three numbers after it. Those that it has not are 0.
 pub struct Fields {
     pub ruler: Numbers,
     pub first: u32,
@@ -83,18 +89,71 @@ fn number_if(line: &[u8], at: usize, has: bool) -> Field {
     Field { value: 0, next: at }
 }
 
-// The numbers of a call that has so many.
-pub fn numbers_at(line: &[u8], at: usize, count: usize) -> Fields {
-    let w = number_if(line, at, 0 < count);
-    let m = number_if(line, w.next, 1 < count);
-    let a = number_if(line, m.next, 2 < count);
-    let b = number_if(line, a.next, 3 < count);
-    let c = number_if(line, b.next, 4 < count);
-    Fields {
+// Whether two runs of bytes are the same.
+pub fn same(a: &[u8], b: &[u8]) -> bool {
+    if a.len() != b.len() {
+        return false;
+    }
+    let mut i: usize = 0;
+    while i < a.len() {
+        if a[i] != b[i] {
+            return false;
+        }
+        i += 1;
+    }
+    true
+}
+
+// A ruler of the first kind: w and m.
+fn bits_at(line: &[u8], at: usize) -> RulerField {
+    let w = number_at(line, at);
+    let m = number_at(line, w.next);
+    RulerField {
         ruler: Numbers::Bits {
             w: w.value,
             m: m.value,
         },
+        next: m.next,
+    }
+}
+
+// The numbers of a ruler of the second kind, after its word: m, lo and hi.
+fn spread_at(line: &[u8], at: usize) -> RulerField {
+    let m = number_at(line, at);
+    let lo = number_at(line, m.next);
+    let hi = number_at(line, lo.next);
+    RulerField {
+        ruler: Numbers::Spread {
+            m: m.value,
+            lo: lo.value,
+            hi: hi.value,
+        },
+        next: hi.next,
+    }
+}
+
+// The ruler that begins at a place. Its first field tells its kind: the word of the second is no number, so no line can be read both ways. Where
+// no field begins, it is wrong as either.
+fn ruler_at(line: &[u8], at: usize) -> RulerField {
+    if line.len() < at {
+        return bits_at(line, at);
+    }
+    let end = field_end(line, at);
+    if same(&line[at..end], b"spread") {
+        return spread_at(line, end + 1);
+    }
+    bits_at(line, at)
+}
+
+// The ruler of a call, and the numbers after it, of which it has so many.
+pub fn numbers_at(line: &[u8], at: usize, count: usize) -> Fields {
+    let named = ruler_at(line, at);
+    let ruler = named.ruler;
+    let a = number_if(line, named.next, 0 < count);
+    let b = number_if(line, a.next, 1 < count);
+    let c = number_if(line, b.next, 2 < count);
+    Fields {
+        ruler,
         first: a.value,
         second: b.value,
         third: c.value,

@@ -3,8 +3,8 @@ use mathlib.Core.Path.{_≡_}
 use Prim.Native.Nat.{_-_, _≤_}
 use lib.ListN.{length}
 use borrow.Author.Needs.{needs}
-use Rattle.probe.proofs.rows.same.Statement.{statement}
-use Rattle.probe.proofs.rows.same.Tie as tie
+use Rattle.probe.proofs.scan.same.Statement.{statement}
+use Rattle.probe.proofs.scan.same.Tie as tie
 
 abbrev Inv-loop : tie.InvT-loop
 Inv-loop a b i₀ i =
