@@ -50,6 +50,11 @@ pub fn gives(
     is(outcome, 0, 0) & same
 }
 
+// A ruler of the first kind, and one of the second.
 pub fn ruler(w: u32, m: u32) -> Numbers {
     Numbers::Bits { w, m }
+}
+
+pub fn spread(m: u32, lo: u32, hi: u32) -> Numbers {
+    Numbers::Spread { m, lo, hi }
 }
