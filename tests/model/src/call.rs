@@ -1,12 +1,14 @@
 //! One call with all its inputs: its line for the probe, and the answer line that the model expects.
 //!
-//! A line is the call's name, its numbers, then each buffer as its length and its words, single spaces.
+//! A line is the call's name, its ruler, its numbers, then each buffer as its length and its words, single spaces. A ruler is
+//! `w m`, or `spread m lo hi`.
 
 use crate::model::ask::ask;
 use crate::model::build::build;
 use crate::model::check::check;
 use crate::model::edit::{add, remove};
 use crate::model::index::{Index, Reply};
+use crate::model::ruler::Ruler;
 use crate::model::trip::Trip;
 use crate::model::view::{census, run};
 
@@ -20,6 +22,9 @@ pub const NUMBERS: [(&str, &[u32]); 7] = [
     ("run", &[0, 1, 3, 8, 12]),
     ("census", &[0, 1, 3, 8]),
 ];
+
+/// The word that a ruler of the second kind begins with.
+const SPREAD: &str = "spread";
 
 /// The words that each buffer of a call may have at the test port.
 const MOST_TABLE: usize = 12_300;
@@ -41,8 +46,7 @@ pub enum Request {
 
 #[derive(Clone, Debug, PartialEq)]
 pub struct Call {
-    pub w: u32,
-    pub m: u32,
+    pub ruler: Ruler,
     pub request: Request,
     pub index: Index,
 }
@@ -60,9 +64,22 @@ impl Call {
         }
     }
 
+    /// The name and the ruler, with which the line begins.
+    pub fn head(&self) -> String {
+        let mut head = self.name().to_string();
+        match self.ruler {
+            Ruler::Bits { w, m } => push_words(&mut head, &[w, m]),
+            Ruler::Spread { m, lo, hi } => {
+                head.push(' ');
+                head.push_str(SPREAD);
+                push_words(&mut head, &[m, lo, hi]);
+            }
+        }
+        head
+    }
+
     pub fn line(&self) -> String {
-        let mut line = self.name().to_string();
-        push_words(&mut line, &[self.w, self.m]);
+        let mut line = self.head();
         match &self.request {
             Request::Build { table } => push_buffer(&mut line, table),
             Request::Check | Request::Census => {}
@@ -83,37 +100,37 @@ impl Call {
     /// What the model answers: number, detail, what else the call returns, then each buffer that the
     /// call may write, as it is afterwards.
     pub fn answer(&self) -> String {
-        let (w, m) = (self.w, self.m);
+        let ruler = self.ruler;
         let mut index = self.index.clone();
         let mut text;
         match &self.request {
             Request::Build { table } => {
-                text = opening(build(w, m, table, &mut index));
+                text = opening(build(ruler, table, &mut index));
                 push_index(&mut text, &index);
             }
-            Request::Check => text = opening(check(w, m, &index)),
+            Request::Check => text = opening(check(ruler, &index)),
             Request::Add { trip } => {
-                text = opening(add(w, m, *trip, &mut index));
+                text = opening(add(ruler, *trip, &mut index));
                 push_index(&mut text, &index);
             }
             Request::Remove { id } => {
-                text = opening(remove(w, m, *id, &mut index));
+                text = opening(remove(ruler, *id, &mut index));
                 push_index(&mut text, &index);
             }
             Request::Ask { code, start, end, answers } => {
                 let mut answers = answers.clone();
-                let (reply, count) = ask(w, m, *code, *start, *end, &index, &mut answers);
+                let (reply, count) = ask(ruler, *code, *start, *end, &index, &mut answers);
                 text = opening(reply);
                 push_words(&mut text, &[count]);
                 push_buffer(&mut text, &answers);
             }
             Request::Run { level, partition, subdivision } => {
-                let (reply, shown) = run(w, m, *level, *partition, *subdivision, &index);
+                let (reply, shown) = run(ruler, *level, *partition, *subdivision, &index);
                 text = opening(reply);
                 push_buffer(&mut text, &shown);
             }
             Request::Census => {
-                let (reply, counts) = census(w, m, &index);
+                let (reply, counts) = census(ruler, &index);
                 text = opening(reply);
                 for row in &counts {
                     push_words(&mut text, row);
@@ -125,15 +142,15 @@ impl Call {
 
     /// The call of a line, or nothing where the line is of another form.
     pub fn read(line: &str) -> Option<Call> {
-        let mut fields = line.split(' ');
+        let mut fields = line.split(' ').peekable();
         let name = fields.next()?;
+        let spread = fields.next_if_eq(&SPREAD).is_some();
         let mut words = Vec::new();
         for field in fields {
             words.push(plain_number(field)?);
         }
         let mut rest = &words[..];
-        let w = take_word(&mut rest)?;
-        let m = take_word(&mut rest)?;
+        let ruler = take_ruler(&mut rest, spread)?;
         let request = match name {
             "build" => Request::Build { table: take_buffer(&mut rest, MOST_TABLE)? },
             "check" => Request::Check,
@@ -164,7 +181,7 @@ impl Call {
             originals: take_buffer(&mut rest, MOST_ORIGINALS)?,
             replicas: take_buffer(&mut rest, MOST_REPLICAS)?,
         };
-        let mut call = Call { w, m, request, index };
+        let mut call = Call { ruler, request, index };
         if let Request::Ask { answers, .. } = &mut call.request {
             *answers = take_buffer(&mut rest, MOST_ANSWERS)?;
         }
@@ -218,6 +235,15 @@ fn take_word(rest: &mut &[u32]) -> Option<u32> {
     let (first, others) = rest.split_first()?;
     *rest = others;
     Some(*first)
+}
+
+/// The numbers of a ruler, which is of the second kind where its word came before them.
+fn take_ruler(rest: &mut &[u32], spread: bool) -> Option<Ruler> {
+    if spread {
+        Some(Ruler::Spread { m: take_word(rest)?, lo: take_word(rest)?, hi: take_word(rest)? })
+    } else {
+        Some(Ruler::Bits { w: take_word(rest)?, m: take_word(rest)? })
+    }
 }
 
 fn take_buffer(rest: &mut &[u32], most: usize) -> Option<Vec<u32>> {

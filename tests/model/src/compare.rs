@@ -1,7 +1,9 @@
 //! Runs the programs and compares all they answer with the model.
 
 use crate::call::Call;
+use crate::crossed::Crossed;
 use crate::faults::with_fault;
+use crate::generate::crossings::crossings;
 use crate::generate::pieces::cut_into_pieces;
 use crate::generate::rounds::rounds;
 use crate::generate::sessions::session_input;
@@ -10,17 +12,12 @@ use crate::model::relation::CODES;
 use crate::options::Options;
 use crate::program::{answers_of, end_of, run_session, start};
 use crate::random::Random;
+use crate::score::Score;
 use crate::session::session;
 use crate::sums::Sums;
-use crate::tally::Tally;
 use std::io::{self, BufWriter, Write};
 use std::thread;
 use std::time::Duration;
-
-/// Differences shown in full; later ones are only counted.
-const SHOWN: usize = 5;
-/// Characters of a line that are shown.
-const SHOWN_TEXT: usize = 3_000;
 
 pub fn compare(probe: &str, program: &str, seed: u64, many: usize, options: &Options) -> io::Result<bool> {
     let calls = if probe == "-" { Score::default() } else { compare_calls(probe, seed, many, options.size, options)? };
@@ -28,26 +25,31 @@ pub fn compare(probe: &str, program: &str, seed: u64, many: usize, options: &Opt
     Ok(closed(&calls, &sessions))
 }
 
-/// The whole trial of both programs: small calls, one in twenty as many large ones, windows under every code, and
-/// sessions. Each call must have met each number that it can answer, and the counts of each window add up.
+/// The whole trial of both programs: small calls, some large ones, windows under every code, words of one ruler under another,
+/// and sessions. Each call must have met each number that it can answer, under rulers of either kind; the counts of each window
+/// must add up; and words of another ruler must have been accepted and refused.
 pub fn agree(probe: &str, program: &str, seed: u64, many: usize, options: &Options) -> io::Result<bool> {
     let mut calls = compare_calls(probe, seed, many, SMALL, options)?;
     calls.join(compare_calls(probe, seed + 1, many / LARGE_ONES, FULL, options)?);
     let (rounds, sums) = compare_rounds(probe, seed + 2, many / ROUNDS, options)?;
     calls.join(rounds);
+    let (handed, crossed) = compare_crossings(probe, seed + 3, many / CROSSINGS, options)?;
+    calls.join(handed);
     let sessions = compare_sessions(program, seed, options)?;
     calls.tally.print();
+    crossed.print();
     println!("windows under every code: the counts of {} of {} add up", sums.right, sums.right + sums.wrong);
-    let missing = calls.tally.missing();
+    let missing = [calls.tally.missing(), crossed.missing()].concat();
     for text in &missing {
         println!("{}", text);
     }
     Ok(closed(&calls, &sessions) && missing.is_empty() && sums.wrong == 0)
 }
 
-/// One large call, and one window under every code, for so many small calls.
+/// One large call, one window under every code, and one call with words of another ruler, for so many small calls.
 const LARGE_ONES: usize = 20;
 const ROUNDS: usize = 50;
+const CROSSINGS: usize = 20;
 
 fn closed(calls: &Score, sessions: &Score) -> bool {
     println!(
@@ -58,60 +60,6 @@ fn closed(calls: &Score, sessions: &Score) -> bool {
         sessions.all()
     );
     calls.differed == 0 && sessions.differed == 0
-}
-
-#[derive(Default)]
-struct Score {
-    agreed: usize,
-    differed: usize,
-    tally: Tally,
-}
-
-impl Score {
-    fn all(&self) -> usize {
-        self.agreed + self.differed
-    }
-
-    fn join(&mut self, other: Score) {
-        self.agreed += other.agreed;
-        self.differed += other.differed;
-        self.tally.join(other.tally);
-    }
-
-    /// Shows the first few differences.
-    fn count(&mut self, what: &str, input: &str, expected: &str, given: &str) {
-        if expected == given {
-            self.agreed += 1;
-            return;
-        }
-        self.differed += 1;
-        if self.differed <= SHOWN {
-            println!("{} differs{}", what, first_difference(expected, given));
-            println!("  input:    {}", shown(input));
-            println!("  expected: {}", shown(expected));
-            println!("  given:    {}", shown(given));
-        }
-    }
-}
-
-fn shown(text: &str) -> String {
-    let start: String = text.chars().take(SHOWN_TEXT).collect();
-    if start.len() == text.len() {
-        start
-    } else {
-        format!("{} ... ({} characters)", start, text.chars().count())
-    }
-}
-
-fn first_difference(expected: &str, given: &str) -> String {
-    let mut words = expected.split(' ');
-    for (k, word) in given.split(' ').enumerate() {
-        let right = words.next();
-        if right != Some(word) {
-            return format!(", first at word {} of the answer: {} for {}", k, shown(word), right.unwrap_or("the end"));
-        }
-    }
-    ", the answer ends too early".to_string()
 }
 
 /// What is sent to the probe: the calls of the seed, and at times a line that is no call. The thread that
@@ -166,6 +114,14 @@ fn compare_rounds(command: &str, seed: u64, many: usize, options: &Options) -> i
     let name = format!("the rounds of seed {}", seed);
     let score = compare_lines(command, &name, many * CODES as usize, row, options, |call, given| sums.see(call, given))?;
     Ok((score, sums))
+}
+
+fn compare_crossings(command: &str, seed: u64, many: usize, options: &Options) -> io::Result<(Score, Crossed)> {
+    let mut crossed = Crossed::default();
+    let row = || crossings(seed).take(many).map(ProbeLine::Good);
+    let name = format!("the crossings of seed {}", seed);
+    let score = compare_lines(command, &name, many, row, options, |_, given| crossed.see(given))?;
+    Ok((score, crossed))
 }
 
 /// Sends the lines of a row, which is drawn twice, to a program; `seen` is shown each call with the program's own answer.

@@ -25,12 +25,22 @@ pub enum Fault {
     EndOfSlot,
     SpareUnchecked,
     FarIds,
+    RoundedUp,
+    LastTooLarge,
+    CutProduct,
+    CellAnew,
+    HiTooWide,
+    TooNarrow,
+    HiOff,
+    LoOff,
+    LoUntested,
+    LessLo,
     SessionReturn,
     SessionDigits,
 }
 
 /// Name, fault, and what goes wrong.
-pub const FAULTS: [(&str, Fault, &str); 20] = [
+pub const FAULTS: [(&str, Fault, &str); 30] = [
     ("tie-order", Fault::TieOrder, "equal starts in a slot of originals stand by falling id"),
     ("aft-by-start", Fault::AftByStart, "R_aft is ordered by start then id"),
     ("in-by-start", Fault::InByStart, "R_in is ordered by start then id"),
@@ -49,6 +59,16 @@ pub const FAULTS: [(&str, Fault, &str); 20] = [
     ("end-of-slot", Fault::EndOfSlot, "an added trip goes to the end of its slots"),
     ("spare-unchecked", Fault::SpareUnchecked, "the check does not look at words after the last entry"),
     ("far-ids", Fault::FarIds, "an id is compared with those of the 512 rows before it alone"),
+    ("rounded-up", Fault::RoundedUp, "second ruler: a cell is rounded up"),
+    ("last-too-large", Fault::LastTooLarge, "second ruler: 2^m stands for 2^m - 1"),
+    ("cut-product", Fault::CutProduct, "second ruler: the product is cut to 32 bits"),
+    ("cell-anew", Fault::CellAnew, "second ruler: the cell at a level above is computed anew and not halved"),
+    ("hi-too-wide", Fault::HiTooWide, "second ruler: hi may be 2^24"),
+    ("too-narrow", Fault::TooNarrow, "second ruler: fewer times than cells are refused"),
+    ("hi-off", Fault::HiOff, "second ruler: hi is no time"),
+    ("lo-off", Fault::LoOff, "second ruler: lo is no time"),
+    ("lo-untested", Fault::LoUntested, "second ruler: times before lo pass, and get cell 0"),
+    ("less-lo", Fault::LessLo, "second ruler: times are taken to be less lo already"),
     ("session-return", Fault::SessionReturn, "a carriage return at the end of a line is passed over"),
     ("session-digits", Fault::SessionDigits, "a number may have more than ten digits"),
 ];

@@ -2,12 +2,14 @@
 
 mod call;
 mod compare;
+mod crossed;
 mod faults;
 mod generate;
 mod model;
 mod options;
 mod program;
 mod random;
+mod score;
 mod selftest;
 mod session;
 mod sums;

@@ -12,7 +12,7 @@ pub struct Options {
     /// How long one answer of a program may take, in seconds.
     pub wait: u64,
     pub bad_lines: bool,
-    /// The most vectors of one call with one number.
+    /// The most vectors of one call with one number, under rulers of one kind.
     pub each: usize,
     /// Whether vectors of every window under every code follow.
     pub every_code: bool,

@@ -4,7 +4,7 @@ use crate::faults::{planted, Fault};
 use crate::model::ask::ask;
 use crate::model::edit::{add, remove};
 use crate::model::index::{directory_length, Index, Reply};
-use crate::model::ruler::in_bounds;
+use crate::model::ruler::Ruler;
 use crate::model::trip::{Trip, ENTRY_WORDS};
 
 const MOST_ORIGINALS: usize = 256;
@@ -12,17 +12,16 @@ const MOST_REPLICAS: usize = 3328;
 const MOST_ANSWERS: usize = 256;
 const DEEPEST: u32 = 8;
 
-/// A line of the right form. Which lines may come when is not a matter of form.
+/// A line of the right form; its ruler is of the first kind. Which lines may come when is not a matter of form.
 enum Line {
-    Ruler { w: u32, m: u32 },
+    Ruler { ruler: Ruler },
     Add { trip: Trip },
     Remove { id: u32 },
     Ask { code: u32, start: u32, end: u32 },
 }
 
 struct Open {
-    w: u32,
-    m: u32,
+    ruler: Ruler,
     index: Index,
 }
 
@@ -71,7 +70,7 @@ fn line(bytes: &[u8]) -> Option<Line> {
     }
     match (fields[0], &numbers[..]) {
         (b"D", [_, m]) if *m > DEEPEST => None,
-        (b"D", [w, m]) => Some(Line::Ruler { w: *w, m: *m }),
+        (b"D", [w, m]) => Some(Line::Ruler { ruler: Ruler::Bits { w: *w, m: *m } }),
         (b"T", [id, start, end]) => Some(Line::Add { trip: Trip { id: *id, start: *start, end: *end } }),
         (b"X", [id]) => Some(Line::Remove { id: *id }),
         (b"Q", [code, start, end]) => Some(Line::Ask { code: *code, start: *start, end: *end }),
@@ -100,16 +99,16 @@ fn number(field: &[u8]) -> Option<u32> {
 
 /// What the line writes, and whether it ends the session.
 fn answer(line: Line, open: &mut Option<Open>) -> (String, bool) {
-    if let Line::Ruler { w, m } = line {
-        return open_with(w, m, open);
+    if let Line::Ruler { ruler } = line {
+        return open_with(ruler, open);
     }
     let state = match open.as_mut() {
         None => return bad_line(),
         Some(state) => state,
     };
     let text = match line {
-        Line::Add { trip } => edit_text(add(state.w, state.m, trip, &mut state.index)),
-        Line::Remove { id } => edit_text(remove(state.w, state.m, id, &mut state.index)),
+        Line::Add { trip } => edit_text(add(state.ruler, trip, &mut state.index)),
+        Line::Remove { id } => edit_text(remove(state.ruler, id, &mut state.index)),
         Line::Ask { code, start, end } => ask_text(code, start, end, state),
         Line::Ruler { .. } => unreachable!("answered above"),
     };
@@ -117,14 +116,14 @@ fn answer(line: Line, open: &mut Option<Open>) -> (String, bool) {
 }
 
 /// A second D is malformed; a refused one ends the session.
-fn open_with(w: u32, m: u32, open: &mut Option<Open>) -> (String, bool) {
+fn open_with(ruler: Ruler, open: &mut Option<Open>) -> (String, bool) {
     if open.is_some() {
         return bad_line();
     }
-    if !in_bounds(w, m) {
+    if !ruler.in_bounds() {
         return ("refused 1".to_string(), true);
     }
-    *open = Some(Open { w, m, index: empty_index(m) });
+    *open = Some(Open { ruler, index: empty_index(ruler.m()) });
     ("ok".to_string(), false)
 }
 
@@ -146,7 +145,7 @@ fn edit_text(reply: Reply) -> String {
 
 fn ask_text(code: u32, start: u32, end: u32, state: &Open) -> String {
     let mut answers = vec![0; MOST_ANSWERS];
-    let (reply, count) = ask(state.w, state.m, code, start, end, &state.index, &mut answers);
+    let (reply, count) = ask(state.ruler, code, start, end, &state.index, &mut answers);
     if reply.number != 0 {
         return edit_text(reply);
     }

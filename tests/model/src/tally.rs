@@ -1,30 +1,27 @@
-//! Drawn calls counted by name and by the number of their answer, and which of those never came.
+//! Drawn calls counted by name, kind of ruler and number of their answer, and which of those never came.
 
 use crate::call::{Call, NUMBERS};
 use crate::generate::Calls;
+use crate::model::ruler::{Kind, KINDS};
 use std::collections::BTreeMap;
 
 #[derive(Default)]
 pub struct Tally {
-    counts: BTreeMap<(String, u32), usize>,
+    counts: BTreeMap<(String, Kind, u32), usize>,
 }
 
 impl Tally {
     pub fn count(&mut self, call: &Call, answer: &str) {
-        *self.counts.entry((call.name().to_string(), number_of(answer))).or_insert(0) += 1;
+        *self.counts.entry(key(call, answer)).or_insert(0) += 1;
     }
 
     /// How many like this were counted.
     pub fn of_answer(&self, call: &Call, answer: &str) -> usize {
-        self.of(call.name(), number_of(answer))
+        self.counts.get(&key(call, answer)).copied().unwrap_or(0)
     }
 
-    pub fn of(&self, name: &str, number: u32) -> usize {
-        self.counts.get(&(name.to_string(), number)).copied().unwrap_or(0)
-    }
-
-    pub fn has(&self, name: &str, number: u32) -> bool {
-        self.of(name, number) > 0
+    pub fn of(&self, name: &str, kind: Kind, number: u32) -> usize {
+        self.counts.get(&(name.to_string(), kind, number)).copied().unwrap_or(0)
     }
 
     pub fn join(&mut self, other: Tally) {
@@ -33,29 +30,37 @@ impl Tally {
         }
     }
 
-    /// A line for each call: how many had each number.
+    /// A line for each call and kind of ruler: how many had each number.
     pub fn print(&self) {
         for (name, numbers) in &NUMBERS {
-            let mut line = format!("{}:", name);
-            for number in *numbers {
-                line.push_str(&format!(" {} x{}", number, self.of(name, *number)));
+            for kind in KINDS {
+                let mut line = format!("{} {}:", name, kind.name());
+                for number in *numbers {
+                    line.push_str(&format!(" {} x{}", number, self.of(name, kind, *number)));
+                }
+                println!("{}", line);
             }
-            println!("{}", line);
         }
+        let all = |kind: Kind| -> usize { self.counts.iter().filter(|(key, _)| key.1 == kind).map(|(_, count)| count).sum() };
+        println!("calls under a ruler of w and m: {}, of m, lo and hi: {}", all(Kind::Bits), all(Kind::Spread));
     }
 
-    /// The calls that never had one of the numbers that they can have.
+    /// The calls that never had one of the numbers that they can have, under rulers of one kind.
     pub fn missing(&self) -> Vec<String> {
         let mut found = Vec::new();
         for (name, numbers) in &NUMBERS {
-            for number in *numbers {
-                if !self.has(name, *number) {
-                    found.push(format!("{} never answered {}", name, number));
+            for kind in KINDS {
+                for number in numbers.iter().filter(|number| self.of(name, kind, **number) == 0) {
+                    found.push(format!("{} {} never answered {}", name, kind.name(), number));
                 }
             }
         }
         found
     }
+}
+
+fn key(call: &Call, answer: &str) -> (String, Kind, u32) {
+    (call.name().to_string(), call.ruler.kind(), number_of(answer))
 }
 
 /// An answer begins with its number.

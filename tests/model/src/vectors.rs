@@ -4,6 +4,7 @@ use crate::faults::with_fault;
 use crate::generate::rounds::every_window_of;
 use crate::generate::sessions::session_input;
 use crate::generate::Calls;
+use crate::model::ruler::Ruler;
 use crate::options::Options;
 use crate::random::Random;
 use crate::session::session;
@@ -12,8 +13,8 @@ use std::fs::{create_dir_all, write, File};
 use std::io::{self, BufWriter, Write};
 use std::path::Path;
 
-/// The narrowest ruler on which a window meets a trip. One level will do: a relationship knows nothing of levels.
-const SMALL_RULER: (u32, u32) = (2, 0);
+/// Rulers of four times, the fewest on which every relationship comes. One level will do: a relationship knows nothing of levels.
+const SMALL_RULERS: [Ruler; 2] = [Ruler::Bits { w: 2, m: 0 }, Ruler::Spread { m: 0, lo: 5, hi: 8 }];
 
 pub fn print(seed: u64, many: usize, options: &Options) -> io::Result<bool> {
     let output = io::stdout();
@@ -32,9 +33,10 @@ pub fn print(seed: u64, many: usize, options: &Options) -> io::Result<bool> {
         }
     }
     if options.every_code {
-        let (w, m) = SMALL_RULER;
-        for call in every_window_of(&mut Random::new(seed), w, m).iter().flatten() {
-            writeln!(output, "{}\n{}", call.line(), with_fault(options.fault, || call.answer()))?;
+        for ruler in SMALL_RULERS {
+            for call in every_window_of(&mut Random::new(seed), ruler).iter().flatten() {
+                writeln!(output, "{}\n{}", call.line(), with_fault(options.fault, || call.answer()))?;
+            }
         }
     }
     output.flush()?;

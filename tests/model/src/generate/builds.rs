@@ -15,11 +15,11 @@ use crate::random::Random;
 /// A build; after an accepted one at times the check of what it wrote, or the same table in another
 /// order of rows.
 pub fn scene(random: &mut Random, size: Size) -> Vec<Call> {
-    let (mut w, mut m) = ruler(random, size);
-    let mut rows = trips(random, w, m, size.trips);
-    let (originals, replicas) = needed_words(w, m, &rows);
-    if random.once_in(3) {
-        spoil_rows(random, w, &mut rows);
+    let mut ruler = ruler(random, size);
+    let mut rows = trips(random, ruler, size.trips);
+    let (originals, replicas) = needed_words(ruler, &rows);
+    if random.once_in(2) {
+        spoil_rows(random, ruler, &mut rows);
     }
     let mut table = words_of(&rows);
     if random.once_in(12) {
@@ -27,14 +27,14 @@ pub fn scene(random: &mut Random, size: Size) -> Vec<Call> {
     }
     let originals_length = length_near(random, size, originals, true);
     let replicas_length = length_near(random, size, replicas, true);
-    let mut index = dirty_index(random, m, originals_length, replicas_length);
+    let mut index = dirty_index(random, ruler.m(), originals_length, replicas_length);
     if random.once_in(12) {
-        spoil_directory(random, m, &mut index.directory);
+        spoil_directory(random, ruler.m(), &mut index.directory);
     }
-    if random.once_in(14) {
-        spoil_ruler(random, &mut w, &mut m);
+    if random.once_in(10) {
+        spoil_ruler(random, &mut ruler);
     }
-    let first = Call { w, m, request: Request::Build { table: table.clone() }, index };
+    let first = Call { ruler, request: Request::Build { table: table.clone() }, index };
     let mut calls = vec![first.clone()];
     if random.once_in(4) {
         calls.extend(second_call(random, &first, table));
@@ -44,7 +44,7 @@ pub fn scene(random: &mut Random, size: Size) -> Vec<Call> {
 
 fn second_call(random: &mut Random, first: &Call, table: Vec<u32>) -> Option<Call> {
     let mut built = first.index.clone();
-    if build(first.w, first.m, &table, &mut built) != ACCEPTED {
+    if build(first.ruler, &table, &mut built) != ACCEPTED {
         return None;
     }
     let mut second = first.clone();

@@ -1,8 +1,9 @@
 //! Damage to the words of a lawful index. Some kinds leave an index after all: the model decides.
 
+use super::borders::first_time;
 use super::damage_slots::damage_slots;
 use super::made::Made;
-use super::rulers::width;
+use super::rulers::ruler_with;
 use crate::model::index::{partitions, Index};
 use crate::model::trip::ENTRY_WORDS;
 use crate::random::Random;
@@ -24,7 +25,8 @@ fn damage_once(random: &mut Random, made: &mut Made) {
 }
 
 fn damage_words(random: &mut Random, made: &mut Made) {
-    let m = made.m;
+    let m = made.ruler.m();
+    let first = first_time(made.ruler);
     let index = &mut made.index;
     match random.below(15) {
         0 | 1 => change_directory_word(random, index),
@@ -34,13 +36,13 @@ fn damage_words(random: &mut Random, made: &mut Made) {
         6 => soil_spare_word(random, m, index),
         7 => lengthen(random, index),
         8 => shorten(random, index),
-        9 => raise_total(random, m, index),
+        9 => raise_total(random, m, first, index),
         10 => huge_directory_word(random, m, index),
         11 => swap_halves(random, index),
         12 => fill(random, index),
-        13 => entry_in_no_slot(random, m, index),
-        // Lawful words, on a ruler of another width.
-        _ => made.w = width(random, m),
+        13 => entry_in_no_slot(random, m, first, index),
+        // Lawful words, on another ruler.
+        _ => made.ruler = ruler_with(random, m),
     }
 }
 
@@ -137,8 +139,8 @@ fn shorten(random: &mut Random, index: &mut Index) {
 }
 
 /// The directory claims one entry more from some slot on. The zeros behind the entries then read as trip
-/// 0 [0, 0], which in an empty index can even be right.
-fn raise_total(random: &mut Random, m: u32, index: &mut Index) {
+/// 0 [0, 0], which in an empty index can even be right, where 0 is a time; else trip 0 at the first time can.
+fn raise_total(random: &mut Random, m: u32, first_time: u32, index: &mut Index) {
     let half = 2 * partitions(m) + 1;
     let (first, end) = if random.once_in(3) { (half, 2 * half) } else { (0, half) };
     let leftmost_leaf = first + 2 * ((1 << m) - 1);
@@ -149,12 +151,12 @@ fn raise_total(random: &mut Random, m: u32, index: &mut Index) {
     }
     if random.once_in(2) {
         let arena = if first == 0 { &mut index.originals } else { &mut index.replicas };
-        arena.extend(&[0, 0, 0]);
+        arena.extend(&[0, first_time, first_time]);
     }
 }
 
 /// The first entry of an arena stands before the first slot: either one that was there, or a new one.
-fn entry_in_no_slot(random: &mut Random, m: u32, index: &mut Index) {
+fn entry_in_no_slot(random: &mut Random, m: u32, first_time: u32, index: &mut Index) {
     let half = 2 * partitions(m) + 1;
     let originals = random.once_in(2);
     let words = if originals { &mut index.directory[..half] } else { &mut index.directory[half..] };
@@ -167,7 +169,7 @@ fn entry_in_no_slot(random: &mut Random, m: u32, index: &mut Index) {
         for word in words.iter_mut() {
             *word = word.wrapping_add(1);
         }
-        arena.splice(0..0, [5, 0, 0]);
+        arena.splice(0..0, [5, first_time, first_time]);
     }
 }
 

@@ -1,6 +1,7 @@
 //! Damage to the entries of slots, with a directory that fits them again: every slot and every total looks
 //! right, and still no table gives these words.
 
+use super::borders::{cell_end, cell_start, first_time};
 use super::made::{entry_words, Made};
 use super::tables::trips;
 use super::times::off_ruler;
@@ -9,7 +10,7 @@ use crate::model::trip::Trip;
 use crate::random::Random;
 
 pub fn damage_slots(random: &mut Random, made: &mut Made) {
-    let mut filled = slots(made.w, made.m, &made.trips);
+    let mut filled = slots(made.ruler, &made.trips);
     match random.below(12) {
         0 => filled = halves_of_two_tables(random, made, filled),
         1 | 2 | 3 => filled = slots_of_unlawful_trips(random, made),
@@ -163,22 +164,23 @@ fn swap_ids(random: &mut Random, filled: &mut Slots) {
 /// The originals of one table with the replicas of another.
 fn halves_of_two_tables(random: &mut Random, made: &Made, filled: Slots) -> Slots {
     let mut others = if random.once_in(2) {
-        trips(random, made.w, made.m, made.trips.len() + 1)
+        trips(random, made.ruler, made.trips.len() + 1)
     } else {
         made.trips.clone()
     };
     if others.len() > 1 && random.once_in(2) {
         others.pop();
     }
-    Slots { originals: filled.originals, replicas: slots(made.w, made.m, &others).replicas }
+    Slots { originals: filled.originals, replicas: slots(made.ruler, &others).replicas }
 }
 
 /// The slots of trips that no build accepts, filled as if it had: an id twice, a trip backward inside one
-/// cell, an end past the ruler.
+/// cell, an end off the ruler.
 fn slots_of_unlawful_trips(random: &mut Random, made: &Made) -> Slots {
+    let ruler = made.ruler;
     let mut rows = made.trips.clone();
     if rows.is_empty() {
-        rows.push(Trip { id: 0, start: 0, end: 0 });
+        rows.push(Trip { id: 0, start: first_time(ruler), end: first_time(ruler) });
     }
     let row = random.below(rows.len());
     match random.below(4) {
@@ -191,11 +193,11 @@ fn slots_of_unlawful_trips(random: &mut Random, made: &Made) -> Slots {
             rows[row].id = rows[other].id;
         }
         2 => {
-            let cell_times = 1u32 << (made.w - made.m);
-            rows[row].end = rows[row].start - rows[row].start % cell_times;
-            rows[row].start = rows[row].end + cell_times - 1;
+            let cell = ruler.cell(ruler.m(), rows[row].start);
+            rows[row].end = cell_start(ruler, cell);
+            rows[row].start = cell_end(ruler, cell);
         }
-        _ => rows[row].end = off_ruler(random, made.w),
+        _ => rows[row].end = off_ruler(random, ruler),
     }
-    slots(made.w, made.m, &rows)
+    slots(ruler, &rows)
 }

@@ -28,7 +28,7 @@ pub fn any_call(random: &mut Random, size: Size, made: &Made) -> Call {
         3 => addition(random, made),
         4 => removal(random, made),
         5 => {
-            let (start, end) = window(random, made.w, made.m, &made.trips);
+            let (start, end) = window(random, made.ruler, &made.trips);
             let code = any_code(random);
             question(random, size, made, code, start, end)
         }
@@ -41,15 +41,15 @@ pub fn any_call(random: &mut Random, size: Size, made: &Made) -> Call {
 }
 
 pub fn plain(made: &Made, request: Request) -> Call {
-    Call { w: made.w, m: made.m, request, index: made.index.clone() }
+    Call { ruler: made.ruler, request, index: made.index.clone() }
 }
 
 /// Refusals 1 and 3 come before 8, whatever the words are.
 pub fn spoil_head(random: &mut Random, call: &mut Call) {
-    if random.once_in(16) {
-        spoil_directory(random, call.m, &mut call.index.directory);
+    if random.once_in(6) {
+        spoil_directory(random, call.ruler.m(), &mut call.index.directory);
     }
-    if random.once_in(16) {
-        spoil_ruler(random, &mut call.w, &mut call.m);
+    if random.once_in(6) {
+        spoil_ruler(random, &mut call.ruler);
     }
 }

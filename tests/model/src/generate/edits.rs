@@ -23,7 +23,7 @@ pub fn scene(random: &mut Random, size: Size) -> Vec<Call> {
             growing = !growing;
         }
         let call = if random.once_in(8) {
-            let (start, end) = window(random, made.w, made.m, &made.trips);
+            let (start, end) = window(random, made.ruler, &made.trips);
             let code = any_code(random);
             question(random, size, &made, code, start, end)
         } else if random.once_in(6) == growing {
@@ -39,20 +39,20 @@ pub fn scene(random: &mut Random, size: Size) -> Vec<Call> {
 
 /// Arenas with room for some trips more than there are, and not for all that will come.
 fn history_start(random: &mut Random, size: Size) -> Made {
-    let (w, m) = ruler(random, size);
-    let all = trips(random, w, m, size.trips);
-    let (originals, replicas) = needed_words(w, m, &all);
+    let ruler = ruler(random, size);
+    let all = trips(random, ruler, size.trips);
+    let (originals, replicas) = needed_words(ruler, &all);
     let first: Vec<Trip> = all.iter().take(random.below(all.len() + 1)).cloned().collect();
     let originals_length = originals + random.below(size.spare + 1);
     let replicas_length = replicas + random.below(size.spare + 1);
-    let index = index_of(w, m, &first, originals_length, replicas_length);
-    Made { w, m, trips: first, index }
+    let index = index_of(ruler, &first, originals_length, replicas_length);
+    Made { ruler, trips: first, index }
 }
 
 /// A new trip, or one with faults; at times the copy of a trip under another id.
 pub fn addition(random: &mut Random, made: &Made) -> Call {
     let known = times_of(&made.trips);
-    let (start, end) = span(random, made.w, made.m, &known);
+    let (start, end) = span(random, made.ruler, &known);
     let mut trip = Trip { id: new_id(random, &made.trips), start, end };
     if !made.trips.is_empty() && random.once_in(4) {
         let like = random.pick(&made.trips);
@@ -60,22 +60,22 @@ pub fn addition(random: &mut Random, made: &Made) -> Call {
         trip.end = like.end;
     }
     if random.once_in(6) {
-        spoil_addition(random, made.w, &mut trip, &made.trips);
+        spoil_addition(random, made.ruler, &mut trip, &made.trips);
     }
-    Call { w: made.w, m: made.m, request: Request::Add { trip }, index: made.index.clone() }
+    Call { ruler: made.ruler, request: Request::Add { trip }, index: made.index.clone() }
 }
 
 pub fn removal(random: &mut Random, made: &Made) -> Call {
     let absent = made.trips.is_empty() || random.once_in(8);
     let id = if absent { new_id(random, &made.trips) } else { random.pick(&made.trips).id };
-    Call { w: made.w, m: made.m, request: Request::Remove { id }, index: made.index.clone() }
+    Call { ruler: made.ruler, request: Request::Remove { id }, index: made.index.clone() }
 }
 
 /// What the call leaves is where the next one begins.
 fn follow(made: &mut Made, call: &Call) {
     let reply = match &call.request {
-        Request::Add { trip } => add(made.w, made.m, *trip, &mut made.index),
-        Request::Remove { id } => remove(made.w, made.m, *id, &mut made.index),
+        Request::Add { trip } => add(made.ruler, *trip, &mut made.index),
+        Request::Remove { id } => remove(made.ruler, *id, &mut made.index),
         _ => return,
     };
     if reply.number == 0 {

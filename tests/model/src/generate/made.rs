@@ -6,35 +6,35 @@ use super::size::Size;
 use super::tables::trips;
 use crate::model::index::Index;
 use crate::model::layout::{slots, words};
+use crate::model::ruler::Ruler;
 use crate::model::trip::{Trip, ENTRY_WORDS};
 use crate::random::Random;
 
 /// A ruler, trips, and the index of these trips in arenas with little or no spare room.
 #[derive(Clone)]
 pub struct Made {
-    pub w: u32,
-    pub m: u32,
+    pub ruler: Ruler,
     pub trips: Vec<Trip>,
     pub index: Index,
 }
 
 pub fn made(random: &mut Random, size: Size) -> Made {
-    let (w, m) = ruler(random, size);
-    let trips = trips(random, w, m, size.trips);
-    made_of(random, size, w, m, trips)
+    let ruler = ruler(random, size);
+    let trips = trips(random, ruler, size.trips);
+    made_of(random, size, ruler, trips)
 }
 
-pub fn made_of(random: &mut Random, size: Size, w: u32, m: u32, trips: Vec<Trip>) -> Made {
-    let (originals, replicas) = needed_words(w, m, &trips);
+pub fn made_of(random: &mut Random, size: Size, ruler: Ruler, trips: Vec<Trip>) -> Made {
+    let (originals, replicas) = needed_words(ruler, &trips);
     let originals_length = length_near(random, size, originals, false);
     let replicas_length = length_near(random, size, replicas, false);
-    let index = index_of(w, m, &trips, originals_length, replicas_length);
-    Made { w, m, trips, index }
+    let index = index_of(ruler, &trips, originals_length, replicas_length);
+    Made { ruler, trips, index }
 }
 
 /// The words that the entries of these trips take in each arena.
-pub fn needed_words(w: u32, m: u32, trips: &[Trip]) -> (usize, usize) {
-    let filled = slots(w, m, trips);
+pub fn needed_words(ruler: Ruler, trips: &[Trip]) -> (usize, usize) {
+    let filled = slots(ruler, trips);
     (entry_words(&filled.originals), entry_words(&filled.replicas))
 }
 
@@ -43,8 +43,8 @@ pub fn entry_words(slots: &[Vec<Trip>]) -> usize {
 }
 
 /// The arenas must be long enough.
-pub fn index_of(w: u32, m: u32, trips: &[Trip], originals_length: usize, replicas_length: usize) -> Index {
-    match words(&slots(w, m, trips), originals_length, replicas_length) {
+pub fn index_of(ruler: Ruler, trips: &[Trip], originals_length: usize, replicas_length: usize) -> Index {
+    match words(&slots(ruler, trips), originals_length, replicas_length) {
         Some(index) => index,
         None => unreachable!("the lengths were drawn to be enough"),
     }

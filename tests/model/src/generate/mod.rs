@@ -1,11 +1,14 @@
 //! Calls and sessions drawn from a seed: lawful ones, and ones made to be got wrong.
 
 mod big;
+mod borders;
 mod buffers;
 mod builds;
+pub mod crossings;
 mod damage;
 mod damage_slots;
 mod damaged;
+mod deep;
 mod edits;
 mod lines;
 mod longest;
@@ -24,6 +27,7 @@ mod times;
 mod views;
 
 use crate::call::{Call, Request};
+use crate::model::ruler::KINDS;
 use crate::random::Random;
 use std::collections::VecDeque;
 
@@ -32,6 +36,7 @@ pub use self::longest::ENTRIES as ENTRIES_OF_THE_LONGEST;
 pub use self::made::{made, Made};
 pub use self::size::{Size, FULL, SMALL};
 pub use self::tables::trips;
+pub use self::times::time;
 
 /// What every probe can hold. A call that needs more is left out.
 const MOST_DIRECTORY: usize = 8_200;
@@ -39,8 +44,10 @@ const MOST_TABLE: usize = 12_300;
 const MOST_REPLICAS: usize = 60_000;
 const MOST_ANSWERS: usize = 4_100;
 
-/// The first big scenes come early, so that a short run meets them; the others are rare, as they are slow.
-const FIRST_BIG: usize = 400;
+/// The first two big scenes come early, so that a short run meets them with rulers of both kinds; the others are rare, as they
+/// are slow.
+const FIRST_BIG: usize = 200;
+const SECOND_BIG: usize = 400;
 const NEXT_BIG: usize = 2_500;
 
 /// A group of calls that belong together.
@@ -54,10 +61,12 @@ enum Scene {
     Views,
     Edits,
     Sweep,
+    Crossing,
+    Deep,
 }
 
 /// Each scene with its weight. Some draw one call and some a hundred; the weights even that out.
-const SCENES: [(Scene, usize); 8] = [
+const SCENES: [(Scene, usize); 10] = [
     (Scene::Build, 330),
     (Scene::Damaged, 280),
     (Scene::Questions, 22),
@@ -66,6 +75,8 @@ const SCENES: [(Scene, usize); 8] = [
     (Scene::Edits, 9),
     (Scene::Sweep, 2),
     (Scene::Crowd, 2),
+    (Scene::Crossing, 60),
+    (Scene::Deep, 5),
 ];
 
 /// An endless row of calls; the same seed and size give the same row.
@@ -76,6 +87,7 @@ pub struct Calls {
     scenes: usize,
     given: usize,
     next_big: usize,
+    big_scenes: usize,
 }
 
 impl Calls {
@@ -87,15 +99,13 @@ impl Calls {
             scenes: 0,
             given: 0,
             next_big: FIRST_BIG,
+            big_scenes: 0,
         }
     }
 
     fn scene(&mut self) -> Vec<Call> {
         if self.size.big && self.given >= self.next_big {
-            self.next_big = self.given + NEXT_BIG;
-            let mut calls = big::scene(&mut self.random);
-            calls.extend(longest::scene(&mut self.random));
-            return calls;
+            return self.big_scene();
         }
         // Each kind once at first, so that a short run has them all.
         let scene = if self.scenes < SCENES.len() { SCENES[self.scenes].0 } else { self.weighted_scene() };
@@ -108,10 +118,23 @@ impl Calls {
             Scene::EveryTrip => questions::every_trip_scene(random, self.size),
             Scene::Crowd if self.size.big => questions::crowd_scene(random, self.size),
             Scene::Crowd => Vec::new(),
+            Scene::Deep if self.size.big => deep::scene(random, self.size),
+            Scene::Deep => Vec::new(),
             Scene::Views => views::scene(random, self.size),
             Scene::Edits => edits::scene(random, self.size),
             Scene::Sweep => sweep::scene(random, self.size),
+            Scene::Crossing => crossings::scene(random, self.size),
         }
+    }
+
+    /// The most trips on a ruler of one kind, the longest trips on one of the other; the next time the other way round.
+    fn big_scene(&mut self) -> Vec<Call> {
+        let number = self.big_scenes;
+        self.big_scenes += 1;
+        self.next_big = if number == 0 { SECOND_BIG } else { self.given + NEXT_BIG };
+        let mut calls = big::scene(&mut self.random, KINDS[number % 2]);
+        calls.extend(longest::scene(&mut self.random, KINDS[(number + 1) % 2]));
+        calls
     }
 
     fn weighted_scene(&mut self) -> Scene {

@@ -2,9 +2,9 @@
 
 use super::buffers::dirty;
 use super::made::{made, made_of, Made};
-use super::rulers::width;
+use super::rulers::{ruler_with, small_ruler};
 use super::size::Size;
-use super::tables::{every_trip, spread_trips};
+use super::tables::{every_trip, scattered_trips};
 use super::times::{every_span, window};
 use crate::call::{Call, Request};
 use crate::model::ask::matches;
@@ -19,20 +19,19 @@ pub fn scene(random: &mut Random, size: Size) -> Vec<Call> {
 /// Some hundred trips on many levels.
 pub fn crowd_scene(random: &mut Random, size: Size) -> Vec<Call> {
     let m = random.between(4, size.deepest);
-    let w = width(random, m);
+    let ruler = ruler_with(random, m);
     let many = random.between(100, 300) as usize;
-    let trips = spread_trips(random, w, m, many);
-    let made = made_of(random, size, w, m, trips);
+    let trips = scattered_trips(random, ruler, many);
+    let made = made_of(random, size, ruler, trips);
     every_code(random, size, &made)
 }
 
 /// Every trip that a small ruler has, asked with any of its windows.
 pub fn every_trip_scene(random: &mut Random, size: Size) -> Vec<Call> {
-    let w = random.between(1, if size.big { 3 } else { 2 });
-    let m = random.between(0, w);
-    let spans = every_span(w);
-    let trips = every_trip(random, w);
-    let made = made_of(random, size, w, m, trips);
+    let ruler = small_ruler(random, if size.big { 3 } else { 2 });
+    let spans = every_span(ruler);
+    let trips = every_trip(random, ruler);
+    let made = made_of(random, size, ruler, trips);
     let mut calls = Vec::new();
     for _ in 0..20 {
         let (start, end) = random.pick(&spans);
@@ -51,10 +50,10 @@ fn every_code(random: &mut Random, size: Size, made: &Made) -> Vec<Call> {
     codes.push(bad_code(random));
     random.shuffle(&mut codes);
     let same_window = random.once_in(4);
-    let first = window(random, made.w, made.m, &made.trips);
+    let first = window(random, made.ruler, &made.trips);
     let mut calls = Vec::new();
     for code in codes {
-        let (start, end) = if same_window { first } else { window(random, made.w, made.m, &made.trips) };
+        let (start, end) = if same_window { first } else { window(random, made.ruler, &made.trips) };
         calls.push(question(random, size, made, code, start, end));
     }
     calls
@@ -83,8 +82,7 @@ pub fn question(random: &mut Random, size: Size, made: &Made, code: u32, start: 
     };
     let answers = dirty(random, length);
     Call {
-        w: made.w,
-        m: made.m,
+        ruler: made.ruler,
         request: Request::Ask { code, start, end, answers },
         index: made.index.clone(),
     }

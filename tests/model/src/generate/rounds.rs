@@ -9,41 +9,56 @@ use super::tables::every_trip;
 use super::times::{every_span, window};
 use crate::call::{Call, Request};
 use crate::model::relation::CODES;
-use crate::model::ruler::MOST_TRIPS;
+use crate::model::ruler::{Ruler, MOST_TRIPS};
 use crate::random::Random;
 
-/// The widest ruler of which every window is asked.
+/// The widest rulers of the first kind of which every window is asked; and of the second, hi - lo and the deepest level.
 const SMALL_WIDTH: u32 = 3;
+const SMALL_SPREADS: [u32; 3] = [1, 3, 6];
+const SMALL_DEPTH: u32 = 3;
+
+/// Those of a timetable to 28:00, for the most trips.
+const LARGE_RULERS: [Ruler; 2] = [Ruler::Bits { w: 18, m: 10 }, Ruler::Spread { m: 10, lo: 0, hi: 100_800 }];
 
 /// An endless row of rounds, each the calls of one window; the same seed gives the same row.
 pub fn rounds(seed: u64) -> impl Iterator<Item = Vec<Call>> + Send {
     let mut random = Random::of(seed, 2);
     let mut first = every_window(&mut random);
-    first.push(most_trips(&mut random));
+    for ruler in LARGE_RULERS {
+        first.push(most_trips(&mut random, ruler));
+    }
     first.into_iter().chain(std::iter::repeat_with(move || drawn(&mut random)))
 }
 
 fn every_window(random: &mut Random) -> Vec<Vec<Call>> {
     let mut found = Vec::new();
-    for w in 1..=SMALL_WIDTH {
-        for m in 0..=w {
-            found.extend(every_window_of(random, w, m));
-        }
+    for ruler in small_rulers() {
+        found.extend(every_window_of(random, ruler));
+    }
+    found
+}
+
+/// Both kinds, short ones first.
+fn small_rulers() -> Vec<Ruler> {
+    let mut found = Vec::new();
+    for (w, long) in (1..=SMALL_WIDTH).zip(SMALL_SPREADS) {
+        found.extend((0..=w).map(|m| Ruler::Bits { w, m }));
+        // From 0 and from a later time.
+        found.extend((0..=SMALL_DEPTH).map(|m| Ruler::Spread { m, lo: 5 * (m % 2), hi: 5 * (m % 2) + long }));
     }
     found
 }
 
 /// Every window of a ruler, over every trip that it has.
-pub fn every_window_of(random: &mut Random, w: u32, m: u32) -> Vec<Vec<Call>> {
-    let trips = every_trip(random, w);
-    let made = made_of(random, SMALL, w, m, trips);
-    every_span(w).iter().map(|&(start, end)| round(random, &made, start, end)).collect()
+pub fn every_window_of(random: &mut Random, ruler: Ruler) -> Vec<Vec<Call>> {
+    let trips = every_trip(random, ruler);
+    let made = made_of(random, SMALL, ruler, trips);
+    every_span(ruler).iter().map(|&(start, end)| round(random, &made, start, end)).collect()
 }
 
-fn most_trips(random: &mut Random) -> Vec<Call> {
-    let (w, m) = (18, 10);
-    let trips = short_trips(random, w, m, MOST_TRIPS);
-    let made = made_of(random, SMALL, w, m, trips);
+fn most_trips(random: &mut Random, ruler: Ruler) -> Vec<Call> {
+    let trips = short_trips(random, ruler, MOST_TRIPS);
+    let made = made_of(random, SMALL, ruler, trips);
     over(random, &made)
 }
 
@@ -56,8 +71,8 @@ fn drawn(random: &mut Random) -> Vec<Call> {
 /// A round for some window that passes 4 and 5.
 fn over(random: &mut Random, made: &Made) -> Vec<Call> {
     loop {
-        let (start, end) = window(random, made.w, made.m, &made.trips);
-        if start <= end && end < 1 << made.w {
+        let (start, end) = window(random, made.ruler, &made.trips);
+        if start <= end && made.ruler.on_ruler(start) && made.ruler.on_ruler(end) {
             return round(random, made, start, end);
         }
     }
@@ -68,7 +83,7 @@ fn round(random: &mut Random, made: &Made, start: u32, end: u32) -> Vec<Call> {
     for code in 0..CODES {
         let room = made.trips.len() + random.below(3);
         let request = Request::Ask { code, start, end, answers: dirty(random, room) };
-        calls.push(Call { w: made.w, m: made.m, request, index: made.index.clone() });
+        calls.push(Call { ruler: made.ruler, request, index: made.index.clone() });
     }
     calls
 }

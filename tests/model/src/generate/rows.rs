@@ -1,28 +1,30 @@
 //! Faults in the rows of a table, several at once at times, so that the order of refusals shows.
 
+use super::borders::last_time;
 use super::times::{off_ruler, spoil_span};
+use crate::model::ruler::Ruler;
 use crate::model::trip::{Trip, ENTRY_WORDS};
 use crate::random::Random;
 
 /// One to three faults in rows drawn at random; the same row may be drawn twice.
-pub fn spoil_rows(random: &mut Random, w: u32, trips: &mut [Trip]) {
+pub fn spoil_rows(random: &mut Random, ruler: Ruler, trips: &mut [Trip]) {
     if trips.is_empty() {
         return;
     }
     for _ in 0..random.between(1, 3) {
         let row = random.below(trips.len());
-        spoil_row(random, w, trips, row);
+        spoil_row(random, ruler, trips, row);
     }
 }
 
-fn spoil_row(random: &mut Random, w: u32, trips: &mut [Trip], row: usize) {
+fn spoil_row(random: &mut Random, ruler: Ruler, trips: &mut [Trip], row: usize) {
     let earlier = if row == 0 { 0 } else { random.below(row) };
-    let last = (1u32 << w) - 1;
+    let last = last_time(ruler);
     match random.below(9) {
-        0 => trips[row].start = off_ruler(random, w),
-        1 => trips[row].end = off_ruler(random, w),
+        0 => trips[row].start = off_ruler(random, ruler),
+        1 => trips[row].end = off_ruler(random, ruler),
         2 => {
-            let (start, end) = spoil_span(random, w, trips[row].start, trips[row].end);
+            let (start, end) = spoil_span(random, ruler, trips[row].start, trips[row].end);
             trips[row].start = start;
             trips[row].end = end;
         }
@@ -34,7 +36,7 @@ fn spoil_row(random: &mut Random, w: u32, trips: &mut [Trip], row: usize) {
         }
         _ => {
             trips[row].id = trips[earlier].id;
-            trips[row].end = off_ruler(random, w);
+            trips[row].end = off_ruler(random, ruler);
         }
     }
 }
@@ -50,17 +52,17 @@ fn make_backward(trip: &mut Trip, last: u32) {
 }
 
 /// A trip for an addition: new and lawful, or with one or two faults.
-pub fn spoil_addition(random: &mut Random, w: u32, trip: &mut Trip, present: &[Trip]) {
+pub fn spoil_addition(random: &mut Random, ruler: Ruler, trip: &mut Trip, present: &[Trip]) {
     if !present.is_empty() && random.once_in(2) {
         trip.id = random.pick(present).id;
     }
     match random.below(4) {
         0 => {
-            let (start, end) = spoil_span(random, w, trip.start, trip.end);
+            let (start, end) = spoil_span(random, ruler, trip.start, trip.end);
             trip.start = start;
             trip.end = end;
         }
-        1 => make_backward(trip, (1u32 << w) - 1),
+        1 => make_backward(trip, last_time(ruler)),
         _ => {}
     }
 }

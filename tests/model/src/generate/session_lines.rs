@@ -1,7 +1,7 @@
 //! Lines for sessions that are got wrong easily. Ids, times and codes in them would be accepted.
 
 /// Malformed as the first line.
-pub const BAD_FIRST: [&[u8]; 44] = [
+pub const BAD_FIRST: [&[u8]; 47] = [
     b"",
     b" ",
     b"\r",
@@ -41,6 +41,10 @@ pub const BAD_FIRST: [&[u8]; 44] = [
     b"D 6 4\xff",
     b"D\xc2\xa06 4",
     b"D \xd9\xa6 4",
+    // The second ruler is not for sessions.
+    b"D spread 4 0 63",
+    b"D spread 6 4",
+    b"D 4 0 63",
     // Eleven digits, and values that are no u32.
     b"D 00000000006 4",
     b"D 6 00000000004",

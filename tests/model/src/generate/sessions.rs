@@ -2,6 +2,7 @@
 
 use super::session_lines::{BAD_FIRST, BAD_LATER, REFUSED_FIRST, TOO_DEEP};
 use super::times::{spoil_span, window};
+use crate::model::ruler::Ruler;
 use crate::model::trip::Trip;
 use crate::random::Random;
 
@@ -177,12 +178,13 @@ fn push_line(random: &mut Random, input: &mut Vec<u8>, name: &str, numbers: &[u3
 /// Lines that are all well formed; some are refused, which does not end the session.
 fn good_session(random: &mut Random, most: usize, last_newline: bool) -> Vec<u8> {
     let (w, m) = session_ruler(random);
+    let ruler = Ruler::Bits { w, m };
     let mut input = Vec::new();
     push_line(random, &mut input, "D", &[w, m]);
     // What was sent, whether or not it was accepted: good enough to draw the next lines from.
     let mut sent: Vec<Trip> = Vec::new();
     for _ in 0..random.below(most + 1) {
-        let (start, end) = window(random, w, m, &sent);
+        let (start, end) = window(random, ruler, &sent);
         match random.below(10) {
             0 | 1 | 2 | 3 => {
                 let small = random.below(20) as u32;
@@ -213,11 +215,12 @@ fn good_session(random: &mut Random, most: usize, last_newline: bool) -> Vec<u8>
 /// A day of good lines that no read has at once; with a bad line in its last part, or without the last newline.
 fn long_session(random: &mut Random, bad_line: bool) -> Vec<u8> {
     let (w, m) = (12, random.between(0, 4));
+    let ruler = Ruler::Bits { w, m };
     let mut input = Vec::new();
     push_line(random, &mut input, "D", &[w, m]);
     while input.len() < LONG {
         let id = random.below(24) as u32;
-        let (start, end) = window(random, w, m, &[]);
+        let (start, end) = window(random, ruler, &[]);
         match random.below(4) {
             0 | 1 => push_line(random, &mut input, "T", &[id, start, end]),
             2 => push_line(random, &mut input, "X", &[id]),
@@ -258,7 +261,7 @@ fn full_session(random: &mut Random, widest: bool) -> Vec<u8> {
     push_line(random, &mut input, "T", &[1000, 0, 0]);
     push_line(random, &mut input, "T", &[ids[0], 0, 0]);
     push_line(random, &mut input, "T", &[1000, 1, 0]);
-    let (start, end) = spoil_span(random, w, 1, 0);
+    let (start, end) = spoil_span(random, Ruler::Bits { w, m }, 1, 0);
     push_line(random, &mut input, "T", &[1000, start, end]);
     push_line(random, &mut input, "X", &[ids[9]]);
     push_line(random, &mut input, "T", &[1000, cell % times, times - 1]);

@@ -2,7 +2,7 @@
 
 use super::damaged::any_call;
 use super::made::{made_of, Made};
-use super::rulers::width;
+use super::rulers::ruler_with;
 use super::size::Size;
 use super::tables::trips;
 use crate::call::{Call, Request};
@@ -54,9 +54,9 @@ fn small_index(random: &mut Random, size: Size) -> Made {
 
 fn draw(random: &mut Random, size: Size) -> Made {
     let m = random.between(0, 2);
-    let w = width(random, m);
-    let trips = trips(random, w, m, MOST_TRIPS);
-    made_of(random, Size { spare: 3, ..size }, w, m, trips)
+    let ruler = ruler_with(random, m);
+    let trips = trips(random, ruler, MOST_TRIPS);
+    made_of(random, Size { spare: 3, ..size }, ruler, trips)
 }
 
 /// The k-th word of the directory, the originals and the replicas, as if they were one.

@@ -1,12 +1,14 @@
 //! Lawful tables: times on the ruler, no trip backward, no id twice.
 
+use super::borders::{cell_end, cell_start, first_time, last_time};
 use super::times::{every_span, span};
+use crate::model::ruler::Ruler;
 use crate::model::trip::Trip;
 use crate::random::Random;
 
 /// Up to `most` trips. The styles crowd trips into few slots, where the orders by start, by end and by id
 /// can differ.
-pub fn trips(random: &mut Random, w: u32, m: u32, most: usize) -> Vec<Trip> {
+pub fn trips(random: &mut Random, ruler: Ruler, most: usize) -> Vec<Trip> {
     let many = match random.below(10) {
         0 => 0,
         1 => 1,
@@ -15,21 +17,21 @@ pub fn trips(random: &mut Random, w: u32, m: u32, most: usize) -> Vec<Trip> {
     };
     let ids = ids(random, many);
     let style = random.below(9);
+    let m = ruler.m();
     let crowds = crowds(random, m);
-    let fixed = span(random, w, m, &[]);
-    let last = (1u32 << w) - 1;
+    let fixed = span(random, ruler, &[]);
     let mut found: Vec<Trip> = Vec::new();
     let mut known = Vec::new();
     for id in ids {
         let crowd = random.pick(&crowds);
         let (start, end) = match style {
-            0 | 1 => crowded(random, w, m, crowd),
-            2 => crowded(random, w, m, widest_crowd(m)),
-            3 => from_start(random, w, m, fixed.0),
-            4 => to_end(random, w, m, fixed.1),
-            5 if random.once_in(3) => (0, last),
-            6 if random.once_in(2) => point(random, w, m, &known),
-            _ => span(random, w, m, &known),
+            0 | 1 => crowded(random, ruler, crowd),
+            2 => crowded(random, ruler, widest_crowd(m)),
+            3 => from_start(random, ruler, fixed.0),
+            4 => to_end(random, ruler, fixed.1),
+            5 if random.once_in(3) => (first_time(ruler), last_time(ruler)),
+            6 if random.once_in(2) => point(random, ruler, &known),
+            _ => span(random, ruler, &known),
         };
         known.push(start);
         known.push(end);
@@ -39,14 +41,15 @@ pub fn trips(random: &mut Random, w: u32, m: u32, most: usize) -> Vec<Trip> {
 }
 
 /// Many trips all over the ruler, most of them short, so that all levels are in use.
-pub fn spread_trips(random: &mut Random, w: u32, m: u32, many: usize) -> Vec<Trip> {
-    let last = (1u32 << w) - 1;
+pub fn scattered_trips(random: &mut Random, ruler: Ruler, many: usize) -> Vec<Trip> {
+    let last = last_time(ruler);
+    let all = last - first_time(ruler);
     let mut found: Vec<Trip> = Vec::new();
     let mut known = Vec::new();
     for id in ids(random, many) {
-        let (start, mut end) = span(random, w, m, &known);
+        let (start, mut end) = span(random, ruler, &known);
         if random.once_in(2) {
-            let longest = 1u32 << random.between(0, w);
+            let longest = all >> random.between(0, all.ilog2());
             end = start + random.between(0, longest).min(last - start);
         }
         known.push(start);
@@ -57,18 +60,18 @@ pub fn spread_trips(random: &mut Random, w: u32, m: u32, many: usize) -> Vec<Tri
 }
 
 /// Trips that lie in as many partitions as can be.
-pub fn longest_trips(random: &mut Random, w: u32, m: u32, many: usize) -> Vec<Trip> {
+pub fn longest_trips(random: &mut Random, ruler: Ruler, many: usize) -> Vec<Trip> {
     let mut found = Vec::new();
     for id in ids(random, many) {
-        let (start, end) = crowded(random, w, m, widest_crowd(m));
+        let (start, end) = crowded(random, ruler, widest_crowd(ruler.m()));
         found.push(Trip { id, start, end });
     }
     found
 }
 
-/// Every trip that a ruler of this width has, points too.
-pub fn every_trip(random: &mut Random, w: u32) -> Vec<Trip> {
-    let spans = every_span(w);
+/// Every trip that a ruler has, points too.
+pub fn every_trip(random: &mut Random, ruler: Ruler) -> Vec<Trip> {
+    let spans = every_span(ruler);
     let names = ids(random, spans.len());
     spans.iter().zip(names).map(|(&(start, end), id)| Trip { id, start, end }).collect()
 }
@@ -120,9 +123,9 @@ fn widest_crowd(m: u32) -> (u32, u32) {
 }
 
 /// Start somewhere in the first cell and end somewhere in the last, with many equal times among them.
-fn crowded(random: &mut Random, w: u32, m: u32, cells: (u32, u32)) -> (u32, u32) {
-    let start = in_cell(random, w, m, cells.0);
-    let end = in_cell(random, w, m, cells.1);
+fn crowded(random: &mut Random, ruler: Ruler, cells: (u32, u32)) -> (u32, u32) {
+    let start = in_cell(random, ruler, cells.0);
+    let end = in_cell(random, ruler, cells.1);
     if start <= end {
         (start, end)
     } else {
@@ -130,19 +133,18 @@ fn crowded(random: &mut Random, w: u32, m: u32, cells: (u32, u32)) -> (u32, u32)
     }
 }
 
-fn in_cell(random: &mut Random, w: u32, m: u32, cell: u32) -> u32 {
-    let times = 1u32 << (w - m);
-    let offset = match random.below(4) {
-        0 => 0,
-        1 => times - 1,
-        2 => 1 % times,
-        _ => random.between(0, times - 1),
-    };
-    cell * times + offset
+fn in_cell(random: &mut Random, ruler: Ruler, cell: u32) -> u32 {
+    let (first, last) = (cell_start(ruler, cell), cell_end(ruler, cell));
+    match random.below(4) {
+        0 => first,
+        1 => last,
+        2 => last.min(first + 1),
+        _ => random.between(first, last),
+    }
 }
 
-fn from_start(random: &mut Random, w: u32, m: u32, start: u32) -> (u32, u32) {
-    let (_, end) = span(random, w, m, &[start]);
+fn from_start(random: &mut Random, ruler: Ruler, start: u32) -> (u32, u32) {
+    let (_, end) = span(random, ruler, &[start]);
     if end < start {
         (start, start)
     } else {
@@ -150,8 +152,8 @@ fn from_start(random: &mut Random, w: u32, m: u32, start: u32) -> (u32, u32) {
     }
 }
 
-fn to_end(random: &mut Random, w: u32, m: u32, end: u32) -> (u32, u32) {
-    let (start, _) = span(random, w, m, &[end]);
+fn to_end(random: &mut Random, ruler: Ruler, end: u32) -> (u32, u32) {
+    let (start, _) = span(random, ruler, &[end]);
     if start > end {
         (end, end)
     } else {
@@ -159,7 +161,7 @@ fn to_end(random: &mut Random, w: u32, m: u32, end: u32) -> (u32, u32) {
     }
 }
 
-fn point(random: &mut Random, w: u32, m: u32, known: &[u32]) -> (u32, u32) {
-    let (start, _) = span(random, w, m, known);
+fn point(random: &mut Random, ruler: Ruler, known: &[u32]) -> (u32, u32) {
+    let (start, _) = span(random, ruler, known);
     (start, start)
 }

@@ -1,73 +1,72 @@
 //! Times and windows, most of them at places where a rule turns.
 
+use super::borders::{border, first_time, last_time};
+use crate::model::ruler::Ruler;
 use crate::model::trip::Trip;
 use crate::random::Random;
 
 /// Around the change of day, and around the change of the next.
 const DAY_TIMES: [u32; 8] = [86_399, 86_400, 86_401, 90_000, 90_600, 172_799, 172_800, 172_801];
 
-fn last_time(w: u32) -> u32 {
-    (1u32 << w) - 1
-}
-
 /// A time on the ruler; `known` are times that are in use already.
-pub fn time(random: &mut Random, w: u32, m: u32, known: &[u32]) -> u32 {
-    let last = last_time(w);
+pub fn time(random: &mut Random, ruler: Ruler, known: &[u32]) -> u32 {
+    let (first, last) = (first_time(ruler), last_time(ruler));
     let drawn = match random.below(12) {
-        0 => 0,
+        0 => first,
         1 => last,
-        2 => 1,
-        3 | 4 => border(random, w, m),
-        5 => border(random, w, m).wrapping_sub(1),
-        6 => border(random, w, m) + 1,
+        2 => first + 1,
+        3 | 4 => border(random, ruler),
+        5 => border(random, ruler).wrapping_sub(1),
+        6 => border(random, ruler) + 1,
         7 if !known.is_empty() => random.pick(known),
         8 if !known.is_empty() => random.pick(known).wrapping_add(1),
         9 if !known.is_empty() => random.pick(known).wrapping_sub(1),
         10 => random.pick(&DAY_TIMES),
-        _ => random.between(0, last),
+        _ => random.between(first, last),
     };
-    if drawn > last {
-        random.between(0, last)
+    if drawn < first || drawn > last {
+        random.between(first, last)
     } else {
         drawn
     }
 }
 
-/// The first time of some partition of some level.
-fn border(random: &mut Random, w: u32, m: u32) -> u32 {
-    let level = random.between(0, m);
-    random.between(0, (1 << level) - 1) << (w - level)
-}
-
-/// A time that the ruler does not have.
-pub fn off_ruler(random: &mut Random, w: u32) -> u32 {
-    let times = 1u32 << w;
+/// A time that the ruler does not have: past its last, or before its first where there is such a time.
+pub fn off_ruler(random: &mut Random, ruler: Ruler) -> u32 {
+    let (first, last) = (first_time(ruler), last_time(ruler));
+    if first > 0 && random.once_in(2) {
+        return match random.below(4) {
+            0 | 1 => first - 1,
+            2 => 0,
+            _ => random.between(0, first - 1),
+        };
+    }
     match random.below(6) {
-        0 | 1 | 2 => times,
-        3 => times + 1,
+        0 | 1 | 2 => last + 1,
+        3 => last + 2,
         4 => u32::MAX,
-        _ => times | random.word(),
+        _ => random.between(last + 1, u32::MAX),
     }
 }
 
 /// Two times on the ruler, in order.
-pub fn span(random: &mut Random, w: u32, m: u32, known: &[u32]) -> (u32, u32) {
-    let first = time(random, w, m, known);
-    let second = match random.below(8) {
-        0 | 1 => first,
-        2 => first / 2,
-        _ => time(random, w, m, known),
+pub fn span(random: &mut Random, ruler: Ruler, known: &[u32]) -> (u32, u32) {
+    let one = time(random, ruler, known);
+    let other = match random.below(8) {
+        0 | 1 => one,
+        2 => one - (one - first_time(ruler)) / 2,
+        _ => time(random, ruler, known),
     };
     if random.once_in(16) {
-        return (0, last_time(w));
+        return (first_time(ruler), last_time(ruler));
     }
-    in_order(first, second)
+    in_order(one, other)
 }
 
-/// All of them that a ruler of this width has.
-pub fn every_span(w: u32) -> Vec<(u32, u32)> {
-    let times = 1u32 << w;
-    (0..times).flat_map(|start| (start..times).map(move |end| (start, end))).collect()
+/// All of them that a ruler has.
+pub fn every_span(ruler: Ruler) -> Vec<(u32, u32)> {
+    let (first, last) = (first_time(ruler), last_time(ruler));
+    (first..=last).flat_map(|start| (start..=last).map(move |end| (start, end))).collect()
 }
 
 pub fn times_of(trips: &[Trip]) -> Vec<u32> {
@@ -80,12 +79,12 @@ pub fn times_of(trips: &[Trip]) -> Vec<u32> {
 }
 
 /// A window over an index of these trips. Most are lawful and touch a trip's own times.
-pub fn window(random: &mut Random, w: u32, m: u32, trips: &[Trip]) -> (u32, u32) {
+pub fn window(random: &mut Random, ruler: Ruler, trips: &[Trip]) -> (u32, u32) {
     let known = times_of(trips);
-    let last = last_time(w);
+    let (first, last) = (first_time(ruler), last_time(ruler));
     let (start, end) = match random.below(24) {
-        0 => (0, last),
-        1 => (0, 0),
+        0 => (first, last),
+        1 => (first, first),
         2 => (last, last),
         3 | 4 if !trips.is_empty() => {
             let trip = random.pick(trips);
@@ -93,15 +92,15 @@ pub fn window(random: &mut Random, w: u32, m: u32, trips: &[Trip]) -> (u32, u32)
         }
         // Two known times: equal starts, equal ends and meeting windows come of this.
         5..=8 if !trips.is_empty() => in_order(random.pick(&known), random.pick(&known)),
-        9..=15 if !trips.is_empty() => beside(random, w, m, trips),
+        9..=15 if !trips.is_empty() => beside(random, ruler, trips),
         16 => {
-            let one = time(random, w, m, &known);
+            let one = time(random, ruler, &known);
             (one, one)
         }
-        _ => span(random, w, m, &known),
+        _ => span(random, ruler, &known),
     };
-    match random.below(20) {
-        0 => spoil_span(random, w, start, end),
+    match random.below(14) {
+        0 => spoil_span(random, ruler, start, end),
         1 if start < end => (end, start),
         _ => (start, end),
     }
@@ -109,20 +108,20 @@ pub fn window(random: &mut Random, w: u32, m: u32, trips: &[Trip]) -> (u32, u32)
 
 /// Just after a trip's end or just before its start: in the same cell and partition as the trip, and not
 /// overlapping it. Here a comparison that is left out shows.
-fn beside(random: &mut Random, w: u32, m: u32, trips: &[Trip]) -> (u32, u32) {
+fn beside(random: &mut Random, ruler: Ruler, trips: &[Trip]) -> (u32, u32) {
     let known = times_of(trips);
     let trip = random.pick(trips);
     let other = match random.below(3) {
         0 => random.pick(&known),
-        _ => time(random, w, m, &known),
+        _ => time(random, ruler, &known),
     };
-    let last = last_time(w);
+    let (first, last) = (first_time(ruler), last_time(ruler));
     if random.once_in(2) {
-        let start = trip.end.saturating_add(1).min(last);
+        let start = trip.end.saturating_add(1).clamp(first, last);
         (start, if other >= start { other } else { random.between(start, last) })
     } else {
-        let end = trip.start.saturating_sub(1);
-        (if other <= end { other } else { random.between(0, end) }, end)
+        let end = trip.start.saturating_sub(1).clamp(first, last);
+        (if other <= end { other } else { random.between(first, end) }, end)
     }
 }
 
@@ -135,12 +134,12 @@ fn in_order(one: u32, other: u32) -> (u32, u32) {
 }
 
 /// Off the ruler at one end or both, and at times backward as well: then 4 comes before 5.
-pub fn spoil_span(random: &mut Random, w: u32, start: u32, end: u32) -> (u32, u32) {
+pub fn spoil_span(random: &mut Random, ruler: Ruler, start: u32, end: u32) -> (u32, u32) {
     match random.below(5) {
-        0 => (start, off_ruler(random, w)),
-        1 => (off_ruler(random, w), end),
-        2 => (off_ruler(random, w), off_ruler(random, w)),
-        3 => (1 << w, 1 << w),
-        _ => (off_ruler(random, w), 0),
+        0 => (start, off_ruler(random, ruler)),
+        1 => (off_ruler(random, ruler), end),
+        2 => (off_ruler(random, ruler), off_ruler(random, ruler)),
+        3 => (last_time(ruler) + 1, last_time(ruler) + 1),
+        _ => (off_ruler(random, ruler), first_time(ruler)),
     }
 }

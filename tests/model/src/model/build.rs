@@ -2,31 +2,31 @@
 
 use super::index::{directory_length, refusal, refusal_with, Index, Reply, ACCEPTED};
 use super::layout::lay_out;
-use super::ruler::{in_bounds, on_ruler, MOST_TRIPS};
+use super::ruler::{Ruler, MOST_TRIPS};
 use super::trip::{trips_of, Trip, ENTRY_WORDS};
 use crate::faults::{planted, Fault};
 
-pub fn build(w: u32, m: u32, table: &[u32], index: &mut Index) -> Reply {
-    if !in_bounds(w, m) {
+pub fn build(ruler: Ruler, table: &[u32], index: &mut Index) -> Reply {
+    if !ruler.in_bounds() {
         return refusal(1);
     }
     if table.len() % ENTRY_WORDS != 0 || table.len() / ENTRY_WORDS > MOST_TRIPS {
         return refusal(2);
     }
-    if index.directory.len() != directory_length(m) {
+    if index.directory.len() != directory_length(ruler.m()) {
         return refusal(3);
     }
     let trips = trips_of(table);
     let mut bad = Vec::new();
     for (row, trip) in trips.iter().enumerate() {
-        if let Some(number) = row_refusal(w, trip, &trips[..row]) {
+        if let Some(number) = row_refusal(ruler, trip, &trips[..row]) {
             bad.push(refusal_with(number, row));
         }
     }
     if !bad.is_empty() {
         return if planted(Fault::LastBadRow) { bad[bad.len() - 1] } else { bad[0] };
     }
-    match lay_out(w, m, &trips, index.originals.len(), index.replicas.len()) {
+    match lay_out(ruler, &trips, index.originals.len(), index.replicas.len()) {
         None => refusal(7),
         Some(words) => {
             *index = words;
@@ -36,8 +36,8 @@ pub fn build(w: u32, m: u32, table: &[u32], index: &mut Index) -> Reply {
 }
 
 /// What is wrong with one trip beside those that came before it: 4, 5, 6 in this order.
-pub fn row_refusal(w: u32, trip: &Trip, others: &[Trip]) -> Option<u32> {
-    if let Some(number) = times_refusal(w, trip.start, trip.end) {
+pub fn row_refusal(ruler: Ruler, trip: &Trip, others: &[Trip]) -> Option<u32> {
+    if let Some(number) = times_refusal(ruler, trip.start, trip.end) {
         return Some(number);
     }
     let near = if planted(Fault::FarIds) { others.len().saturating_sub(512) } else { 0 };
@@ -48,11 +48,11 @@ pub fn row_refusal(w: u32, trip: &Trip, others: &[Trip]) -> Option<u32> {
 }
 
 /// 4 and then 5, for a trip and for a window.
-pub fn times_refusal(w: u32, start: u32, end: u32) -> Option<u32> {
+pub fn times_refusal(ruler: Ruler, start: u32, end: u32) -> Option<u32> {
     if planted(Fault::FiveBeforeFour) && start > end {
         return Some(5);
     }
-    if !on_ruler(w, start) || !on_ruler(w, end) {
+    if !ruler.on_ruler(start) || !ruler.on_ruler(end) {
         return Some(4);
     }
     if start > end {

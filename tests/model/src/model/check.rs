@@ -2,12 +2,12 @@
 
 use super::build::build;
 use super::index::{directory_length, partitions, refusal, Index, Reply, ACCEPTED};
-use super::ruler::in_bounds;
+use super::ruler::Ruler;
 use super::trip::{trips_of, Trip, ENTRY_WORDS};
 use crate::faults::{planted, Fault};
 
-pub fn check(w: u32, m: u32, index: &Index) -> Reply {
-    match table_of(w, m, index) {
+pub fn check(ruler: Ruler, index: &Index) -> Reply {
+    match table_of(ruler, index) {
         Ok(_) => ACCEPTED,
         Err(refused) => refused,
     }
@@ -18,10 +18,11 @@ pub fn check(w: u32, m: u32, index: &Index) -> Reply {
 /// Refusal 8 is decided by building again. Each trip has exactly one original entry, so if the words are
 /// the index of a table, the entries of the originals arena are that table in some order; and the order
 /// of rows has no influence on the index. So they are an index exactly if this table gives them back.
-pub fn table_of(w: u32, m: u32, index: &Index) -> Result<Vec<Trip>, Reply> {
-    if !in_bounds(w, m) {
+pub fn table_of(ruler: Ruler, index: &Index) -> Result<Vec<Trip>, Reply> {
+    if !ruler.in_bounds() {
         return Err(refusal(1));
     }
+    let m = ruler.m();
     if index.directory.len() != directory_length(m) {
         return Err(refusal(3));
     }
@@ -32,7 +33,7 @@ pub fn table_of(w: u32, m: u32, index: &Index) -> Result<Vec<Trip>, Reply> {
     }
     let table = &index.originals[..total_words as usize];
     let mut again = zeros_like(index);
-    if build(w, m, table, &mut again) != ACCEPTED {
+    if build(ruler, table, &mut again) != ACCEPTED {
         return Err(refusal(8));
     }
     if planted(Fault::SpareUnchecked) {

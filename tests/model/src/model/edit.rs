@@ -4,29 +4,29 @@ use super::build::row_refusal;
 use super::check::table_of;
 use super::index::{refusal, Index, Reply, ACCEPTED};
 use super::layout::{lay_out, slots, words};
-use super::ruler::MOST_TRIPS;
+use super::ruler::{Ruler, MOST_TRIPS};
 use super::trip::{Trip, ENTRY_WORDS};
 use crate::faults::{planted, Fault};
 
 /// Add: 1, 3, 8, 2, 4, 5, 6, 7.
-pub fn add(w: u32, m: u32, trip: Trip, index: &mut Index) -> Reply {
-    let mut trips = match table_of(w, m, index) {
+pub fn add(ruler: Ruler, trip: Trip, index: &mut Index) -> Reply {
+    let mut trips = match table_of(ruler, index) {
         Ok(trips) => trips,
         Err(refused) => return refused,
     };
     if trips.len() == MOST_TRIPS {
         return refusal(2);
     }
-    if let Some(number) = row_refusal(w, &trip, &trips) {
+    if let Some(number) = row_refusal(ruler, &trip, &trips) {
         return refusal(number);
     }
     trips.push(trip);
-    match lay_out(w, m, &trips, index.originals.len(), index.replicas.len()) {
+    match lay_out(ruler, &trips, index.originals.len(), index.replicas.len()) {
         None => refusal(7),
         Some(words) => {
             *index = words;
             if planted(Fault::EndOfSlot) {
-                move_to_slot_ends(w, m, &trips, index);
+                move_to_slot_ends(ruler, &trips, index);
             }
             ACCEPTED
         }
@@ -34,8 +34,8 @@ pub fn add(w: u32, m: u32, trip: Trip, index: &mut Index) -> Reply {
 }
 
 /// Remove: 1, 3, 8, 10.
-pub fn remove(w: u32, m: u32, id: u32, index: &mut Index) -> Reply {
-    let mut trips = match table_of(w, m, index) {
+pub fn remove(ruler: Ruler, id: u32, index: &mut Index) -> Reply {
+    let mut trips = match table_of(ruler, index) {
         Ok(trips) => trips,
         Err(refused) => return refused,
     };
@@ -44,7 +44,7 @@ pub fn remove(w: u32, m: u32, id: u32, index: &mut Index) -> Reply {
         None => return refusal(10),
     };
     trips.remove(row);
-    let mut edited = match lay_out(w, m, &trips, index.originals.len(), index.replicas.len()) {
+    let mut edited = match lay_out(ruler, &trips, index.originals.len(), index.replicas.len()) {
         Some(words) => words,
         None => unreachable!("fewer trips never need more room"),
     };
@@ -56,9 +56,9 @@ pub fn remove(w: u32, m: u32, id: u32, index: &mut Index) -> Reply {
 }
 
 /// Only for the planted fault: the last of the trips goes to the end of each of its slots.
-fn move_to_slot_ends(w: u32, m: u32, trips: &[Trip], index: &mut Index) {
+fn move_to_slot_ends(ruler: Ruler, trips: &[Trip], index: &mut Index) {
     let added = trips[trips.len() - 1];
-    let mut filled = slots(w, m, trips);
+    let mut filled = slots(ruler, trips);
     for slot in filled.originals.iter_mut().chain(filled.replicas.iter_mut()) {
         if let Some(position) = slot.iter().position(|trip| trip.id == added.id) {
             let trip = slot.remove(position);

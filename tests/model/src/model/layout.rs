@@ -2,6 +2,7 @@
 
 use super::index::{partition_number, partitions, Index};
 use super::places::places;
+use super::ruler::Ruler;
 use super::trip::{words_of, Trip, ENTRY_WORDS};
 use crate::faults::{planted, Fault};
 
@@ -12,11 +13,11 @@ pub struct Slots {
     pub replicas: Vec<Vec<Trip>>,
 }
 
-pub fn slots(w: u32, m: u32, trips: &[Trip]) -> Slots {
-    let many = 2 * partitions(m);
+pub fn slots(ruler: Ruler, trips: &[Trip]) -> Slots {
+    let many = 2 * partitions(ruler.m());
     let mut filled = Slots { originals: vec![Vec::new(); many], replicas: vec![Vec::new(); many] };
     for trip in trips {
-        for place in places(w, m, trip) {
+        for place in places(ruler, trip) {
             let half = if place.original { &mut filled.originals } else { &mut filled.replicas };
             let aft = if place.inside { 0 } else { 1 };
             half[2 * partition_number(place.level, place.partition) + aft].push(*trip);
@@ -89,12 +90,6 @@ fn half(slots: &[Vec<Trip>], arena_length: usize) -> Option<(Vec<u32>, Vec<u32>)
 }
 
 /// The index of some trips in arenas of these lengths, or nothing where one is too short.
-pub fn lay_out(
-    w: u32,
-    m: u32,
-    trips: &[Trip],
-    originals_length: usize,
-    replicas_length: usize,
-) -> Option<Index> {
-    words(&slots(w, m, trips), originals_length, replicas_length)
+pub fn lay_out(ruler: Ruler, trips: &[Trip], originals_length: usize, replicas_length: usize) -> Option<Index> {
+    words(&slots(ruler, trips), originals_length, replicas_length)
 }

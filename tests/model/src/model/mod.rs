@@ -1,4 +1,4 @@
-//! The calls of document 01 as plain functions on words.
+//! The calls of document 01 as plain functions on words, with what document 02 has changed.
 //!
 //! Nothing here is made to be fast. Each rule is written as its sentence reads, so that a reader can
 //! hold the one against the other.

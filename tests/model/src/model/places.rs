@@ -1,6 +1,6 @@
 //! Where a trip is stored: every partition of every level is tried against the definition.
 
-use super::ruler::cell;
+use super::ruler::Ruler;
 use super::trip::Trip;
 use crate::faults::{planted, Fault};
 
@@ -42,9 +42,10 @@ fn holds(m: u32, level: u32, partition: u32, a: u32, b: u32) -> bool {
 }
 
 /// All places of a trip, level 0 first.
-pub fn places(w: u32, m: u32, trip: &Trip) -> Vec<Place> {
-    let a = cell(w, m, trip.start);
-    let b = cell(w, m, trip.end);
+pub fn places(ruler: Ruler, trip: &Trip) -> Vec<Place> {
+    let m = ruler.m();
+    let a = ruler.cell(m, trip.start);
+    let b = ruler.cell(m, trip.end);
     let mut found = Vec::new();
     for level in 0..=m {
         for partition in 0..1u32 << level {
@@ -52,8 +53,8 @@ pub fn places(w: u32, m: u32, trip: &Trip) -> Vec<Place> {
                 found.push(Place {
                     level,
                     partition,
-                    original: cell(w, level, trip.start) == partition,
-                    inside: cell(w, level, trip.end) == partition,
+                    original: ruler.cell(level, trip.start) == partition,
+                    inside: ruler.cell(level, trip.end) == partition,
                 });
             }
         }

@@ -7,8 +7,9 @@ use crate::generate::{Calls, FULL, SMALL};
 use crate::model::check::check;
 use crate::model::index::{directory_length, Index};
 use crate::model::places::places;
-use crate::model::ruler::{in_bounds, MOST_TRIPS};
+use crate::model::ruler::{Ruler, MOST_TRIPS};
 use crate::model::trip::{trips_of, Trip, ENTRY_WORDS};
+use std::collections::BTreeSet;
 
 #[derive(Clone, Copy, Debug, PartialEq)]
 enum Condition {
@@ -57,20 +58,21 @@ pub fn conditions(report: &mut Report) {
     for size in [FULL, SMALL] {
         let mut noticed = [0; ALL.len()];
         for call in Calls::new(31, size).take(CALLS) {
-            let (w, m, index) = (call.w, call.m, &call.index);
+            let (ruler, index) = (call.ruler, &call.index);
             let is_build = matches!(call.request, Request::Build { .. });
-            if is_build || !in_bounds(w, m) || index.directory.len() != directory_length(m) {
+            if is_build || !ruler.in_bounds() || index.directory.len() != directory_length(ruler.m()) {
                 continue;
             }
-            let right = check(w, m, index).number == 0;
-            report.expect(passes(w, m, index, None) == right, "the conditions agree with the model");
-            // Large indices are slow, and only one condition is about them.
+            let right = check(ruler, index).number == 0;
+            report.expect(passes(ruler, index, None) == right, "the conditions agree with the model");
+            // Large indices are slow, and only one condition is about them: those with more than the most trips.
             let large = index.originals.len() > 3_000;
+            let over = index.originals.len() > ENTRY_WORDS * MOST_TRIPS;
             for (times, condition) in noticed.iter_mut().zip(&ALL) {
-                if large && *condition != MostTrips {
+                if large && !(over && *condition == MostTrips) {
                     continue;
                 }
-                if passes(w, m, index, Some(*condition)) != right {
+                if passes(ruler, index, Some(*condition)) != right {
                     *times += 1;
                 }
             }
@@ -122,7 +124,7 @@ impl<'a> Half<'a> {
     }
 }
 
-fn passes(w: u32, m: u32, index: &Index, without: Option<Condition>) -> bool {
+fn passes(ruler: Ruler, index: &Index, without: Option<Condition>) -> bool {
     let (first, second) = index.directory.split_at(index.directory.len() / 2);
     let originals = Half { words: first, arena: &index.originals };
     let replicas = Half { words: second, arena: &index.replicas };
@@ -135,17 +137,18 @@ fn passes(w: u32, m: u32, index: &Index, without: Option<Condition>) -> bool {
             return false;
         }
         for trip in &slot {
-            let on_ruler = trip.start < 1 << w && trip.end < 1 << w;
+            let on_ruler = is_time(ruler, trip.start) && is_time(ruler, trip.end);
             if asked(OnRuler) && !on_ruler || asked(Forward) && trip.start > trip.end {
                 return false;
             }
-            if asked(OriginalPlace) && !lies_in(w, m, trip, number, true) {
+            if asked(OriginalPlace) && !lies_in(ruler, trip, number, true) {
                 return false;
             }
-            wanted += places(w, m, trip).iter().filter(|place| !place.original).count();
+            wanted += places(ruler, trip).iter().filter(|place| !place.original).count();
         }
         trips.extend(slot);
     }
+    let known: BTreeSet<[u32; ENTRY_WORDS]> = trips.iter().map(|trip| [trip.id, trip.start, trip.end]).collect();
     for number in 0..replicas.slots() {
         let slot = replicas.slot(number);
         let in_order = number % 2 == 1 || slot.windows(2).all(|pair| end_id(&pair[0]) < end_id(&pair[1]));
@@ -154,10 +157,10 @@ fn passes(w: u32, m: u32, index: &Index, without: Option<Condition>) -> bool {
             return false;
         }
         for trip in &slot {
-            if asked(ReplicaPlace) && !lies_in(w, m, trip, number, false) {
+            if asked(ReplicaPlace) && !lies_in(ruler, trip, number, false) {
                 return false;
             }
-            if asked(ReplicaKnown) && !trips.contains(trip) {
+            if asked(ReplicaKnown) && !known.contains(&[trip.id, trip.start, trip.end]) {
                 return false;
             }
         }
@@ -173,6 +176,13 @@ fn passes(w: u32, m: u32, index: &Index, without: Option<Condition>) -> bool {
         && (!asked(ReplicaCount) || replicas.total() == wanted)
 }
 
+fn is_time(ruler: Ruler, time: u32) -> bool {
+    match ruler {
+        Ruler::Bits { w, .. } => time >> w == 0,
+        Ruler::Spread { lo, hi, .. } => (lo..=hi).contains(&time),
+    }
+}
+
 fn start_id(trip: &Trip) -> (u32, u32) {
     (trip.start, trip.id)
 }
@@ -182,8 +192,8 @@ fn end_id(trip: &Trip) -> (u32, u32) {
 }
 
 /// Whether the trip belongs into this slot of its half.
-fn lies_in(w: u32, m: u32, trip: &Trip, slot: usize, original: bool) -> bool {
-    places(w, m, trip).iter().any(|place| {
+fn lies_in(ruler: Ruler, trip: &Trip, slot: usize, original: bool) -> bool {
+    places(ruler, trip).iter().any(|place| {
         let number = (1usize << place.level) - 1 + place.partition as usize;
         place.original == original && slot == 2 * number + if place.inside { 0 } else { 1 }
     })

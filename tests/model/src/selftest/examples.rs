@@ -7,11 +7,20 @@ use crate::model::check::check;
 use crate::model::edit::add;
 use crate::model::index::{directory_length, refusal, Index, ACCEPTED};
 use crate::model::places::{places, Place};
+use crate::model::ruler::Ruler;
 use crate::model::trip::{words_of, Trip};
 use crate::model::view::{census, run};
 
-pub const W: u32 = 6;
 pub const M: u32 = 4;
+pub const RULER: Ruler = bits(6, M);
+
+pub const fn bits(w: u32, m: u32) -> Ruler {
+    Ruler::Bits { w, m }
+}
+
+pub const fn spread(m: u32, lo: u32, hi: u32) -> Ruler {
+    Ruler::Spread { m, lo, hi }
+}
 
 pub fn example_trips() -> Vec<Trip> {
     vec![trip(7, 21, 38), trip(3, 20, 20), trip(9, 0, 63), trip(4, 39, 40)]
@@ -32,14 +41,14 @@ pub fn dirty_index(m: u32, originals: usize, replicas: usize) -> Index {
 
 pub fn example_index() -> Index {
     let mut index = dirty_index(M, 15, 12);
-    build(W, M, &words_of(&example_trips()), &mut index);
+    build(RULER, &words_of(&example_trips()), &mut index);
     index
 }
 
 /// The ids that a question lists; a refusal is given by its number.
-pub fn asked(w: u32, m: u32, index: &Index, code: u32, start: u32, end: u32) -> Result<Vec<u32>, u32> {
+pub fn asked(ruler: Ruler, index: &Index, code: u32, start: u32, end: u32) -> Result<Vec<u32>, u32> {
     let mut answers = vec![0; 8];
-    let (reply, count) = ask(w, m, code, start, end, index, &mut answers);
+    let (reply, count) = ask(ruler, code, start, end, index, &mut answers);
     if reply != ACCEPTED {
         return Err(reply.number);
     }
@@ -60,7 +69,7 @@ fn place(level: u32, partition: u32, original: bool, inside: bool) -> Place {
 }
 
 fn places_of_the_examples(report: &mut Report) {
-    let of = |id: u32, start: u32, end: u32| places(W, M, &trip(id, start, end));
+    let of = |id: u32, start: u32, end: u32| places(RULER, &trip(id, start, end));
     let seven = vec![place(3, 3, false, false), place(3, 4, false, true), place(4, 5, true, false)];
     report.expect(of(7, 21, 38) == seven, "places of trip 7");
     report.expect(of(3, 20, 20) == vec![place(4, 5, true, true)], "places of trip 3");
@@ -71,9 +80,9 @@ fn places_of_the_examples(report: &mut Report) {
 
 fn questions(report: &mut Report) {
     let index = example_index();
-    report.expect(check(W, M, &index) == ACCEPTED, "the example's index passes");
+    report.expect(check(RULER, &index) == ACCEPTED, "the example's index passes");
     let mut answer = |code: u32, start: u32, end: u32, ids: &[u32]| {
-        let given = asked(W, M, &index, code, start, end);
+        let given = asked(RULER, &index, code, start, end);
         let what = format!("code {} [{},{}]: {:?} for {:?}", code, start, end, given, ids);
         report.expect(given == Ok(ids.to_vec()), &what);
     };
@@ -87,14 +96,14 @@ fn questions(report: &mut Report) {
     answer(3, 30, 38, &[7]);
     answer(13, 63, 63, &[9]);
     let mut refused = |start: u32, end: u32, number: u32| {
-        let given = asked(W, M, &index, 13, start, end);
+        let given = asked(RULER, &index, 13, start, end);
         report.expect(given == Err(number), &format!("window [{},{}]: {:?} for {}", start, end, given, number));
     };
     refused(64, 3, 4);
     refused(40, 39, 5);
     refused(63, 64, 4);
     let mut edited = example_index();
-    let reply = add(W, M, trip(5, 0, 64), &mut edited);
+    let reply = add(RULER, trip(5, 0, 64), &mut edited);
     report.expect(reply == refusal(4) && edited == index, "a trip that ends at 64 is refused");
 }
 
@@ -103,30 +112,30 @@ fn counts(report: &mut Report) {
     right[0] = [1, 0, 0, 0];
     right[3] = [0, 0, 1, 1];
     right[4] = [1, 2, 1, 0];
-    let (reply, given) = census(W, M, &example_index());
+    let (reply, given) = census(RULER, &example_index());
     report.expect(reply == ACCEPTED && given == right, "census of the example");
-    let (reply, shown) = run(W, M, 3, 4, 2, &example_index());
+    let (reply, shown) = run(RULER, 3, 4, 2, &example_index());
     report.expect(reply == ACCEPTED && shown == vec![7, 21, 38], "run of level 3, partition 4, R_in");
 }
 
 fn words_of_small_indices(report: &mut Report) {
     let mut index = dirty_index(1, 3, 0);
-    let reply = build(1, 1, &[5, 0, 0], &mut index);
+    let reply = build(bits(1, 1), &[5, 0, 0], &mut index);
     report.expect(reply == ACCEPTED, "w = 1, m = 1 is accepted");
     report.expect(index.directory[..7] == [0, 0, 0, 1, 1, 1, 1], "w = 1, m = 1: originals half");
     report.expect(index.directory[7..] == [0; 7], "w = 1, m = 1: replicas half");
     report.expect(index.originals == vec![5, 0, 0], "w = 1, m = 1: the entry");
 
     let mut index = dirty_index(0, 3, 0);
-    let reply = build(1, 0, &[5, 0, 1], &mut index);
+    let reply = build(bits(1, 0), &[5, 0, 1], &mut index);
     report.expect(reply == ACCEPTED && index.directory == vec![0, 1, 1, 0, 0, 0], "w = 1, m = 0");
 
     for (originals, replicas) in [(0, 0), (4, 5)] {
         let mut index = dirty_index(M, originals, replicas);
-        let reply = build(W, M, &[], &mut index);
+        let reply = build(RULER, &[], &mut index);
         let all_zero = index.directory.iter().chain(&index.originals).chain(&index.replicas).all(|word| *word == 0);
         report.expect(reply == ACCEPTED && all_zero, "the empty table");
-        report.expect(check(W, M, &index) == ACCEPTED, "the empty table passes");
+        report.expect(check(RULER, &index) == ACCEPTED, "the empty table passes");
     }
 }
 
@@ -134,11 +143,11 @@ fn past_midnight(report: &mut Report) {
     let (start, end) = (23 * 3600 + 40 * 60, 25 * 3600 + 10 * 60);
     report.expect((start, end) == (85_200, 90_600), "23:40:00 to 25:10:00 in seconds");
     let mut index = dirty_index(10, 3, 60);
-    let reply = build(18, 10, &[1, start, end], &mut index);
+    let reply = build(bits(18, 10), &[1, start, end], &mut index);
     report.expect(reply == ACCEPTED, "a trip past midnight is accepted");
-    report.expect(asked(18, 10, &index, 13, 88_200, 88_800) == Ok(vec![1]), "it is found after midnight");
-    report.expect(asked(18, 10, &index, 13, 1_800, 2_400) == Ok(vec![]), "it is not found in the early morning");
+    report.expect(asked(bits(18, 10), &index, 13, 88_200, 88_800) == Ok(vec![1]), "it is found after midnight");
+    report.expect(asked(bits(18, 10), &index, 13, 1_800, 2_400) == Ok(vec![]), "it is not found in the early morning");
     let mut wrapped = dirty_index(10, 3, 60);
-    let reply = build(18, 10, &[1, 85_200, 4_200], &mut wrapped);
+    let reply = build(bits(18, 10), &[1, 85_200, 4_200], &mut wrapped);
     report.expect(reply == refusal(5) && wrapped == dirty_index(10, 3, 60), "wrapped, it is refused");
 }

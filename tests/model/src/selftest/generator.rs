@@ -1,11 +1,11 @@
 //! The drawn calls themselves: they fit every probe, their lines read back, and they bring about every
-//! answer that there is.
+//! answer that there is, under rulers of both kinds and of every sort.
 
 use super::report::Report;
-use crate::call::{probe_answer, Call, Request, NUMBERS};
-use crate::generate::{bad_probe_line, fits, Calls, ENTRIES_OF_THE_LONGEST, FULL, SMALL};
+use crate::call::{probe_answer, Call, Request};
+use crate::generate::{bad_probe_line, fits, Calls, Size, ENTRIES_OF_THE_LONGEST, FULL, SMALL};
 use crate::model::places::places;
-use crate::model::ruler::DEEPEST;
+use crate::model::ruler::{Kind, Ruler, DEEPEST, KINDS};
 use crate::model::trip::trips_of;
 use crate::random::Random;
 use crate::tally::tally_of;
@@ -19,31 +19,65 @@ pub fn generator(report: &mut Report) {
             report.expect(Call::read(&line) == Some(call.clone()), "a line reads back");
             let bad = bad_probe_line(&mut random, &call);
             report.expect(probe_answer(&bad) == "bad line", &format!("is malformed: {}", bad));
-            report.expect(call.m <= 10 || call.answer().starts_with("1 0"), "m above 10 is refused");
+            report.expect(call.ruler.m() <= 10 || call.answer().starts_with("1 0"), "m above 10 is refused");
         }
-        let longest = Calls::new(21, size).take(1_500).any(|call| is_of_longest(&call));
-        report.expect(longest == size.big, "large calls have a table of the longest trips");
+        for kind in KINDS {
+            let longest = Calls::new(21, size).take(1_500).any(|call| is_of_longest(&call, kind));
+            report.expect(longest == size.big, "large calls have a table of the longest trips under either kind");
+        }
         let twice: Vec<Call> = Calls::new(22, size).take(300).collect();
         report.expect(Calls::new(22, size).take(300).eq(twice), "a seed gives the same calls again");
-        let tally = tally_of(Calls::new(23, size), 6_000);
-        for (name, numbers) in &NUMBERS {
-            for number in *numbers {
-                // 2 of an addition needs 4,096 trips.
-                let reached = tally.has(name, *number);
-                let too_big = !size.big && *name == "add" && *number == 2;
-                report.expect(reached || too_big, &format!("{} answers {}", name, number));
-            }
-        }
+        // 2 of an addition needs 4,096 trips.
+        let mut missing = tally_of(Calls::new(23, size), 10_000).missing();
+        missing.retain(|text| size.big || !text.starts_with("add") || !text.ends_with(" 2"));
+        report.expect(missing.is_empty(), &missing.join(", "));
+        every_sort_of_ruler(report, size);
     }
 }
 
 /// A build on the deepest ruler of a thousand trips and more, of 18 entries each.
-fn is_of_longest(call: &Call) -> bool {
+fn is_of_longest(call: &Call, kind: Kind) -> bool {
     match &call.request {
-        Request::Build { table } if call.m == DEEPEST && call.answer().starts_with("0 0") => {
+        Request::Build { table } if call.ruler.m() == DEEPEST && call.answer().starts_with("0 0") => {
             let trips = trips_of(table);
-            trips.len() > 1_000 && trips.iter().all(|trip| places(call.w, call.m, trip).len() == ENTRIES_OF_THE_LONGEST)
+            let all = trips.iter().all(|trip| places(call.ruler, trip).len() == ENTRIES_OF_THE_LONGEST);
+            call.ruler.kind() == kind && trips.len() > 1_000 && all
         }
         _ => false,
     }
+}
+
+type Sort = (&'static str, fn(u32, u32, u32) -> bool);
+
+/// The sorts of the second ruler, by m, lo and hi: good ones, then bad ones.
+const SORTS: [Sort; 16] = [
+    ("lo = 0", |_, lo, hi| lo == 0 && hi > 0),
+    ("lo > 0", |_, lo, hi| 0 < lo && lo < hi),
+    ("hi - lo = 1", |m, lo, hi| m > 0 && lo < hi && hi - lo == 1),
+    ("fewer times than cells", |m, lo, hi| m <= 10 && lo < hi && hi - lo > 1 && hi - lo < (1 << m) - 1),
+    ("a cell for each time", |m, lo, hi| 1 < m && m <= 10 && lo < hi && hi - lo == (1 << m) - 1),
+    ("the latest hi", |_, lo, hi| lo < hi && hi == (1 << 24) - 1),
+    ("the longest", |_, lo, hi| lo == 0 && hi == (1 << 24) - 1),
+    ("a timetable", |_, lo, hi| lo < hi && hi == 100_800),
+    ("lo = hi", |m, lo, hi| m <= 10 && lo == hi),
+    ("lo > hi", |m, lo, hi| m <= 10 && lo > hi),
+    ("hi = 2^24", |m, lo, hi| m <= 10 && lo < hi && hi == 1 << 24),
+    ("the largest hi", |m, lo, hi| m <= 10 && lo < hi && hi == u32::MAX),
+    ("lo past 2^24", |m, lo, hi| m <= 10 && 1 << 24 <= lo && lo < hi),
+    ("m = 11", |m, lo, hi| m == 11 && lo < hi && hi < 1 << 24),
+    ("32 added to m", |m, lo, hi| 32 <= m && m <= 42 && lo < hi && hi < 1 << 24),
+    ("the largest m", |m, lo, hi| m == u32::MAX && lo < hi && hi < 1 << 24),
+];
+
+fn every_sort_of_ruler(report: &mut Report, size: Size) {
+    let calls: Vec<Call> = Calls::new(24, size).take(6_000).collect();
+    for (name, holds) in SORTS {
+        let met = calls.iter().any(|call| match call.ruler {
+            Ruler::Spread { m, lo, hi } => holds(m, lo, hi),
+            Ruler::Bits { .. } => false,
+        });
+        report.expect(met, &format!("a second ruler is drawn with {}", name));
+    }
+    let second = calls.iter().filter(|call| call.ruler.kind() == Kind::Spread).count();
+    report.expect(calls.len() / 3 < second && second < calls.len() * 2 / 3, "either kind has a third of the calls at least");
 }

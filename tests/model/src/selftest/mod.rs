@@ -9,14 +9,16 @@ mod readings;
 mod report;
 mod rounds;
 mod search;
+mod second_ruler;
 mod sessions;
 
 use self::report::Report;
 
 pub fn selftest() -> bool {
-    let groups: [(&str, fn(&mut Report)); 9] = [
+    let groups: [(&str, fn(&mut Report)); 10] = [
         ("examples of document 01", examples::examples),
         ("readings of unclear places", readings::readings),
+        ("readings of the second ruler", second_ruler::second_ruler),
         ("session program", sessions::sessions),
         ("partitions of a trip", places::places_of_trips),
         ("builds, edits and questions", properties::properties),

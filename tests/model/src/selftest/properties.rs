@@ -2,13 +2,14 @@
 //! written in another way, runs and census equal the slots.
 
 use super::report::Report;
-use crate::generate::{made, trips, Made, FULL};
+use crate::generate::{made, time, trips, Made, FULL};
 use crate::model::ask::ask;
 use crate::model::build::build;
 use crate::model::check::check;
 use crate::model::edit::{add, remove};
 use crate::model::index::{Index, ACCEPTED};
 use crate::model::layout::slots;
+use crate::model::ruler::Ruler;
 use crate::model::trip::{words_of, Trip};
 use crate::model::view::{census, run};
 use crate::random::Random;
@@ -28,21 +29,21 @@ pub fn properties(report: &mut Report) {
 }
 
 fn builds_pass(report: &mut Report, random: &mut Random, made: &Made) {
-    report.expect(check(made.w, made.m, &made.index) == ACCEPTED, "an index that was laid out passes");
+    report.expect(check(made.ruler, &made.index) == ACCEPTED, "an index that was laid out passes");
     let mut rows = made.trips.clone();
     random.shuffle(&mut rows);
-    let again = built(made.w, made.m, &rows, &made.index);
+    let again = built(made.ruler, &rows, &made.index);
     report.expect(again == Some(made.index.clone()), "the order of rows has no influence");
 }
 
 /// The build of these trips into dirty buffers as long as those of `like`.
-fn built(w: u32, m: u32, trips: &[Trip], like: &Index) -> Option<Index> {
+fn built(ruler: Ruler, trips: &[Trip], like: &Index) -> Option<Index> {
     let mut index = Index {
         directory: vec![9; like.directory.len()],
         originals: vec![9; like.originals.len()],
         replicas: vec![9; like.replicas.len()],
     };
-    if build(w, m, &words_of(trips), &mut index) == ACCEPTED {
+    if build(ruler, &words_of(trips), &mut index) == ACCEPTED {
         Some(index)
     } else {
         None
@@ -55,12 +56,12 @@ fn history_equals_build(report: &mut Report, random: &mut Random) {
     let first = made(random, FULL);
     let mut present = first.trips.clone();
     let mut index = first.index.clone();
-    let (w, m) = (first.w, first.m);
-    for new in trips(random, w, m, 20) {
+    let ruler = first.ruler;
+    for new in trips(random, ruler, 20) {
         let before = index.clone();
         let wanted: Vec<Trip> = present.iter().cloned().chain(Some(new)).collect();
-        let reply = add(w, m, new, &mut index);
-        match built(w, m, &wanted, &index) {
+        let reply = add(ruler, new, &mut index);
+        match built(ruler, &wanted, &index) {
             Some(again) => {
                 report.expect(reply == ACCEPTED && index == again, "an addition equals a build");
                 present = wanted;
@@ -70,18 +71,17 @@ fn history_equals_build(report: &mut Report, random: &mut Random) {
         if !present.is_empty() && random.once_in(2) {
             let row = random.below(present.len());
             let gone = present.remove(row);
-            let reply = remove(w, m, gone.id, &mut index);
-            let again = built(w, m, &present, &index);
+            let reply = remove(ruler, gone.id, &mut index);
+            let again = built(ruler, &present, &index);
             report.expect(reply == ACCEPTED && Some(index.clone()) == again, "a removal equals a build");
         }
-        report.expect(check(w, m, &index) == ACCEPTED, "an edited index passes");
+        report.expect(check(ruler, &index) == ACCEPTED, "an edited index passes");
     }
 }
 
 fn questions_equal_a_scan(report: &mut Report, random: &mut Random, made: &Made) {
     for code in 0..14 {
-        let last = (1u32 << made.w) - 1;
-        let (mut start, mut end) = (random.between(0, last), random.between(0, last));
+        let (mut start, mut end) = (time(random, made.ruler, &[]), time(random, made.ruler, &[]));
         if !made.trips.is_empty() && !random.once_in(3) {
             start = random.pick(&made.trips).start;
             let trip = random.pick(&made.trips);
@@ -96,7 +96,7 @@ fn questions_equal_a_scan(report: &mut Report, random: &mut Random, made: &Made)
             made.trips.iter().filter(|trip| stands_so(code, start, end, trip)).map(|trip| trip.id).collect();
         right.sort();
         let mut answers = vec![123; right.len() + 1];
-        let (reply, count) = ask(made.w, made.m, code, start, end, &made.index, &mut answers);
+        let (reply, count) = ask(made.ruler, code, start, end, &made.index, &mut answers);
         let same = reply == ACCEPTED && count as usize == right.len() && answers[..right.len()] == right[..];
         report.expect(same && answers[right.len()] == 123, &format!("code {} equals a scan", code));
     }
@@ -130,23 +130,23 @@ fn stands_so(code: u32, start: u32, end: u32, trip: &Trip) -> bool {
 
 /// The runs, one after the other, are the arenas; the census counts them.
 fn runs_equal_the_slots(report: &mut Report, made: &Made) {
-    if made.m > 6 {
+    if made.ruler.m() > 6 {
         return; // each run checks the whole index: too slow on deep levels
     }
-    let filled = slots(made.w, made.m, &made.trips);
+    let filled = slots(made.ruler, &made.trips);
     let mut counts = [[0; 4]; 11];
     let mut slot = 0;
-    for level in 0..=made.m {
+    for level in 0..=made.ruler.m() {
         for partition in 0..1u32 << level {
             for subdivision in 0..4 {
                 let half = if subdivision < 2 { &filled.originals } else { &filled.replicas };
                 let right = words_of(&half[slot + subdivision as usize % 2]);
                 counts[level as usize][subdivision as usize] += right.len() as u32 / 3;
-                let given = run(made.w, made.m, level, partition, subdivision, &made.index);
+                let given = run(made.ruler, level, partition, subdivision, &made.index);
                 report.expect(given == (ACCEPTED, right), "a run is its slot");
             }
             slot += 2;
         }
     }
-    report.expect(census(made.w, made.m, &made.index) == (ACCEPTED, counts), "the census counts the runs");
+    report.expect(census(made.ruler, &made.index) == (ACCEPTED, counts), "the census counts the runs");
 }

@@ -1,12 +1,13 @@
 //! Places where document 01 leaves room, each as it is read here; and the order of refusals.
 
-use super::examples::{dirty_index, example_index, example_trips, trip, M, W};
+use super::examples::{bits, dirty_index, example_index, example_trips, spread, trip, M, RULER};
 use super::report::Report;
 use crate::model::ask::ask;
 use crate::model::build::build;
 use crate::model::check::check;
 use crate::model::edit::{add, remove};
 use crate::model::index::{refusal, refusal_with, Index, Reply, ACCEPTED};
+use crate::model::ruler::Ruler;
 use crate::model::trip::{words_of, Trip};
 use crate::model::view::{census, run};
 
@@ -19,9 +20,9 @@ pub fn readings(report: &mut Report) {
 }
 
 /// Builds into dirty buffers; a refusal must leave them.
-fn built(report: &mut Report, w: u32, m: u32, table: &[u32], mut index: Index, right: Reply, what: &str) {
+fn built(report: &mut Report, ruler: Ruler, table: &[u32], mut index: Index, right: Reply, what: &str) {
     let before = index.clone();
-    let reply = build(w, m, table, &mut index);
+    let reply = build(ruler, table, &mut index);
     let kept = reply == ACCEPTED || index == before;
     report.expect(reply == right && kept, &format!("{}: {:?} for {:?}", what, reply, right));
 }
@@ -31,25 +32,25 @@ fn order_in_build(report: &mut Report) {
     let mut short = good.clone();
     short.directory.pop();
     let refused = |number: u32| refusal(number);
-    built(report, 0, 0, &[1], short.clone(), refused(1), "1 before 2");
-    built(report, 25, 2, &[], good.clone(), refused(1), "w = 25");
-    built(report, 24, 11, &[], good.clone(), refused(1), "m = 11");
-    built(report, 3, 4, &[], good.clone(), refused(1), "m above w");
-    built(report, u32::MAX, 0, &[], good.clone(), refused(1), "the largest w");
-    built(report, 4, u32::MAX, &[], good.clone(), refused(1), "the largest m");
-    built(report, 4, 2, &[1], short.clone(), refused(2), "2 before 3");
-    built(report, 4, 2, &[1, 9, 2], short, refused(3), "3 before the rows");
-    built(report, 4, 2, &[1, 0, 0, 1, 16, 2], good.clone(), refusal_with(4, 1), "4 before 5 and 6");
-    built(report, 4, 2, &[1, 0, 0, 1, 3, 2], good.clone(), refusal_with(5, 1), "5 before 6");
-    built(report, 4, 2, &[1, 0, 0, 1, 2, 2], good.clone(), refusal_with(6, 1), "6");
-    built(report, 4, 2, &[1, 3, 2, 1, 16, 2], good.clone(), refusal_with(5, 0), "the first bad row decides");
-    built(report, 4, 2, &[1, 0, 0, 1, 0, 0], dirty_index(2, 0, 0), refusal_with(6, 1), "rows before 7");
-    built(report, 4, 2, &[1, 0, 0], dirty_index(2, 2, 0), refused(7), "7 has no detail");
-    built(report, 4, 2, &[1, 0, 11], dirty_index(2, 3, 2), refused(7), "7 for the replicas");
-    built(report, 4, 2, &[1, 0, 11], dirty_index(2, 4, 5), ACCEPTED, "arenas of any length");
+    built(report, bits(0, 0), &[1], short.clone(), refused(1), "1 before 2");
+    built(report, bits(25, 2), &[], good.clone(), refused(1), "w = 25");
+    built(report, bits(24, 11), &[], good.clone(), refused(1), "m = 11");
+    built(report, bits(3, 4), &[], good.clone(), refused(1), "m above w");
+    built(report, bits(u32::MAX, 0), &[], good.clone(), refused(1), "the largest w");
+    built(report, bits(4, u32::MAX), &[], good.clone(), refused(1), "the largest m");
+    built(report, bits(4, 2), &[1], short.clone(), refused(2), "2 before 3");
+    built(report, bits(4, 2), &[1, 9, 2], short, refused(3), "3 before the rows");
+    built(report, bits(4, 2), &[1, 0, 0, 1, 16, 2], good.clone(), refusal_with(4, 1), "4 before 5 and 6");
+    built(report, bits(4, 2), &[1, 0, 0, 1, 3, 2], good.clone(), refusal_with(5, 1), "5 before 6");
+    built(report, bits(4, 2), &[1, 0, 0, 1, 2, 2], good.clone(), refusal_with(6, 1), "6");
+    built(report, bits(4, 2), &[1, 3, 2, 1, 16, 2], good.clone(), refusal_with(5, 0), "the first bad row decides");
+    built(report, bits(4, 2), &[1, 0, 0, 1, 0, 0], dirty_index(2, 0, 0), refusal_with(6, 1), "rows before 7");
+    built(report, bits(4, 2), &[1, 0, 0], dirty_index(2, 2, 0), refused(7), "7 has no detail");
+    built(report, bits(4, 2), &[1, 0, 11], dirty_index(2, 3, 2), refused(7), "7 for the replicas");
+    built(report, bits(4, 2), &[1, 0, 11], dirty_index(2, 4, 5), ACCEPTED, "arenas of any length");
     let rows: Vec<Trip> = (0..4097).map(|id| trip(id, 0, 0)).collect();
-    built(report, 4, 2, &words_of(&rows), dirty_index(2, 12_291, 0), refused(2), "4,097 rows");
-    built(report, 4, 2, &words_of(&rows[..4096]), dirty_index(2, 12_288, 0), ACCEPTED, "4,096 rows");
+    built(report, bits(4, 2), &words_of(&rows), dirty_index(2, 12_291, 0), refused(2), "4,097 rows");
+    built(report, bits(4, 2), &words_of(&rows[..4096]), dirty_index(2, 12_288, 0), ACCEPTED, "4,096 rows");
 }
 
 /// All calls on an index share 1, 3, 8; what follows is each one's own.
@@ -59,44 +60,52 @@ fn order_on_an_index(report: &mut Report) {
     long.directory.push(0);
     let mut broken = good.clone();
     broken.originals.swap(0, 1);
-    let cases = [(25, &long, 1), (W, &long, 3), (W, &broken, 8)];
-    for (w, index, number) in cases {
+    let second = spread(M, 0, 63);
+    let cases = [
+        (bits(25, M), &long, 1),
+        (RULER, &long, 3),
+        (RULER, &broken, 8),
+        (spread(M, 63, 63), &long, 1),
+        (second, &long, 3),
+        (second, &broken, 8),
+    ];
+    for (ruler, index, number) in cases {
         let right = refusal(number);
-        report.expect(check(w, M, index) == right, "check: 1, 3, 8");
+        report.expect(check(ruler, index) == right, "check: 1, 3, 8");
         let mut edited = index.clone();
-        report.expect(add(w, M, trip(7, 99, 2), &mut edited) == right, "add: 1, 3, 8 first");
-        report.expect(remove(w, M, 55, &mut edited) == right, "remove: 1, 3, 8 first");
+        report.expect(add(ruler, trip(7, 99, 2), &mut edited) == right, "add: 1, 3, 8 first");
+        report.expect(remove(ruler, 55, &mut edited) == right, "remove: 1, 3, 8 first");
         report.expect(edited == *index, "a refused edit leaves the words");
         let mut answers = vec![5; 2];
-        report.expect(ask(w, M, 99, 99, 2, index, &mut answers) == (right, 0), "ask: 1, 3, 8 first");
+        report.expect(ask(ruler, 99, 99, 2, index, &mut answers) == (right, 0), "ask: 1, 3, 8 first");
         report.expect(answers == vec![5; 2], "a refused question leaves the list");
-        report.expect(run(w, M, 99, 99, 99, index) == (right, vec![]), "run: 1, 3, 8 first");
-        report.expect(census(w, M, index) == (right, [[0; 4]; 11]), "census: 1, 3, 8 first");
+        report.expect(run(ruler, 99, 99, 99, index) == (right, vec![]), "run: 1, 3, 8 first");
+        report.expect(census(ruler, index) == (right, [[0; 4]; 11]), "census: 1, 3, 8 first");
     }
     let mut edited = good.clone();
-    report.expect(add(W, M, trip(7, 64, 2), &mut edited) == refusal(4), "add: 4 before 5 and 6");
-    report.expect(add(W, M, trip(7, 3, 2), &mut edited) == refusal(5), "add: 5 before 6");
-    report.expect(add(W, M, trip(7, 2, 2), &mut edited) == refusal(6), "add: 6");
-    report.expect(remove(W, M, 55, &mut edited) == refusal(10), "remove: 10");
+    report.expect(add(RULER, trip(7, 64, 2), &mut edited) == refusal(4), "add: 4 before 5 and 6");
+    report.expect(add(RULER, trip(7, 3, 2), &mut edited) == refusal(5), "add: 5 before 6");
+    report.expect(add(RULER, trip(7, 2, 2), &mut edited) == refusal(6), "add: 6");
+    report.expect(remove(RULER, 55, &mut edited) == refusal(10), "remove: 10");
     report.expect(edited == good, "refused edits leave the words");
     let mut none = vec![];
-    report.expect(ask(W, M, 14, 64, 2, &good, &mut none) == (refusal(9), 0), "ask: 9 before 4");
-    report.expect(ask(W, M, u32::MAX, 0, 0, &good, &mut none) == (refusal(9), 0), "ask: the largest code");
+    report.expect(ask(RULER, 14, 64, 2, &good, &mut none) == (refusal(9), 0), "ask: 9 before 4");
+    report.expect(ask(RULER, u32::MAX, 0, 0, &good, &mut none) == (refusal(9), 0), "ask: the largest code");
 }
 
 fn answer_lists(report: &mut Report) {
     let index = example_index();
     let mut exact = vec![1; 4];
-    report.expect(ask(W, M, 13, 0, 63, &index, &mut exact) == (ACCEPTED, 4), "a list that is just long enough");
+    report.expect(ask(RULER, 13, 0, 63, &index, &mut exact) == (ACCEPTED, 4), "a list that is just long enough");
     report.expect(exact == vec![3, 4, 7, 9], "ids in ascending order");
     let mut short = vec![1; 3];
-    report.expect(ask(W, M, 13, 0, 63, &index, &mut short) == (refusal_with(7, 4), 0), "7 tells the matches");
+    report.expect(ask(RULER, 13, 0, 63, &index, &mut short) == (refusal_with(7, 4), 0), "7 tells the matches");
     report.expect(short == vec![1; 3], "7 leaves the list");
     let mut long = vec![1; 6];
-    report.expect(ask(W, M, 13, 0, 63, &index, &mut long) == (ACCEPTED, 4), "a longer list");
+    report.expect(ask(RULER, 13, 0, 63, &index, &mut long) == (ACCEPTED, 4), "a longer list");
     report.expect(long == vec![3, 4, 7, 9, 1, 1], "later words stay");
     let mut none: Vec<u32> = vec![];
-    report.expect(ask(W, M, 0, 5, 6, &index, &mut none) == (ACCEPTED, 0), "no match needs no room");
+    report.expect(ask(RULER, 0, 5, 6, &index, &mut none) == (ACCEPTED, 0), "no match needs no room");
 }
 
 /// What counts as an index, and where room ends.
@@ -105,45 +114,45 @@ fn rooms(report: &mut Report) {
     let mut longer = good.clone();
     longer.originals.push(0);
     longer.replicas.extend(&[0, 0, 0, 0]);
-    report.expect(check(W, M, &longer) == ACCEPTED, "more zeros are the index of longer arenas");
+    report.expect(check(RULER, &longer) == ACCEPTED, "more zeros are the index of longer arenas");
     longer.replicas.push(1);
-    report.expect(check(W, M, &longer) == refusal(8), "a spare word that is not 0");
+    report.expect(check(RULER, &longer) == refusal(8), "a spare word that is not 0");
     let mut cut = good.clone();
     cut.replicas.truncate(8);
-    report.expect(check(W, M, &cut) == refusal(8), "an arena too short for what the directory claims: 8");
+    report.expect(check(RULER, &cut) == refusal(8), "an arena too short for what the directory claims: 8");
 
     let mut tight = dirty_index(M, 14, 11);
-    build(W, M, &words_of(&example_trips()), &mut tight);
+    build(RULER, &words_of(&example_trips()), &mut tight);
     let before = tight.clone();
-    report.expect(add(W, M, trip(1, 5, 5), &mut tight) == refusal(7), "no room for another original: 7, no detail");
+    report.expect(add(RULER, trip(1, 5, 5), &mut tight) == refusal(7), "no room for another original: 7, no detail");
     report.expect(tight == before, "7 leaves the words");
-    report.expect(remove(W, M, 3, &mut tight) == ACCEPTED, "a removal");
-    report.expect(add(W, M, trip(1, 8, 20), &mut tight) == refusal(7), "no room for the replicas: 7");
-    report.expect(add(W, M, trip(3, 20, 20), &mut tight) == ACCEPTED, "freed room is taken again");
+    report.expect(remove(RULER, 3, &mut tight) == ACCEPTED, "a removal");
+    report.expect(add(RULER, trip(1, 8, 20), &mut tight) == refusal(7), "no room for the replicas: 7");
+    report.expect(add(RULER, trip(3, 20, 20), &mut tight) == ACCEPTED, "freed room is taken again");
     report.expect(tight == before, "and the words are as before");
 
     let mut twice = example_trips();
     twice[1].id = 7;
     let mut index = dirty_index(M, 15, 12);
-    report.expect(build(W, M, &words_of(&twice), &mut index) == refusal_with(6, 1), "an id twice");
+    report.expect(build(RULER, &words_of(&twice), &mut index) == refusal_with(6, 1), "an id twice");
 
     let rows: Vec<Trip> = (0..4096).map(|id| trip(id, 0, 0)).collect();
     let mut full = dirty_index(0, 12_291, 0);
-    build(1, 0, &words_of(&rows), &mut full);
-    report.expect(check(1, 0, &full) == ACCEPTED, "4,096 trips pass");
-    report.expect(add(1, 0, trip(9999, 0, 0), &mut full) == refusal(2), "no 4,097th trip");
-    report.expect(add(1, 0, trip(0, 9, 3), &mut full) == refusal(2), "2 even for a bad row");
+    build(bits(1, 0), &words_of(&rows), &mut full);
+    report.expect(check(bits(1, 0), &full) == ACCEPTED, "4,096 trips pass");
+    report.expect(add(bits(1, 0), trip(9999, 0, 0), &mut full) == refusal(2), "no 4,097th trip");
+    report.expect(add(bits(1, 0), trip(0, 9, 3), &mut full) == refusal(2), "2 even for a bad row");
     // The 4,097th by hand: the directory claims it and the arena has it.
     full.directory = vec![0, 4097, 4097, 0, 0, 0];
     full.originals[12_288] = 9999;
-    report.expect(check(1, 0, &full) == refusal(8), "4,097 originals are no index");
+    report.expect(check(bits(1, 0), &full) == refusal(8), "4,097 originals are no index");
 }
 
 fn runs(report: &mut Report) {
     let index = example_index();
     let past = refusal(12);
     let mut refused = |level: u32, partition: u32, subdivision: u32| {
-        let given = run(W, M, level, partition, subdivision, &index);
+        let given = run(RULER, level, partition, subdivision, &index);
         let what = format!("run {} {} {} is past an end", level, partition, subdivision);
         report.expect(given == (past, vec![]), &what);
     };
@@ -155,9 +164,9 @@ fn runs(report: &mut Report) {
     refused(4, u32::MAX, 0);
     refused(4, 15, 4);
     refused(4, 15, u32::MAX);
-    report.expect(run(W, M, 4, 15, 3, &index) == (ACCEPTED, vec![]), "an empty run");
-    report.expect(run(W, M, 4, 5, 0, &index) == (ACCEPTED, vec![3, 20, 20]), "O_in");
-    report.expect(run(W, M, 4, 5, 1, &index) == (ACCEPTED, vec![7, 21, 38]), "O_aft");
-    report.expect(run(W, M, 4, 10, 2, &index) == (ACCEPTED, vec![4, 39, 40]), "R_in");
-    report.expect(run(W, M, 3, 3, 3, &index) == (ACCEPTED, vec![7, 21, 38]), "R_aft");
+    report.expect(run(RULER, 4, 15, 3, &index) == (ACCEPTED, vec![]), "an empty run");
+    report.expect(run(RULER, 4, 5, 0, &index) == (ACCEPTED, vec![3, 20, 20]), "O_in");
+    report.expect(run(RULER, 4, 5, 1, &index) == (ACCEPTED, vec![7, 21, 38]), "O_aft");
+    report.expect(run(RULER, 4, 10, 2, &index) == (ACCEPTED, vec![4, 39, 40]), "R_in");
+    report.expect(run(RULER, 3, 3, 3, &index) == (ACCEPTED, vec![7, 21, 38]), "R_aft");
 }

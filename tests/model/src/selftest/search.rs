@@ -1,27 +1,42 @@
 //! Refusal 8 by its own sentence, on rulers so small that all tables can be tried: words are an index
 //! exactly if some table that build accepts gives them.
 
+use super::examples::{bits, spread};
 use super::report::Report;
 use crate::model::build::build;
 use crate::model::check::check;
 use crate::model::index::{directory_length, refusal, Index, ACCEPTED};
+use crate::model::ruler::Ruler;
 use crate::random::Random;
 
 /// The ids that tables are made of. Changed words may hold others; then no table gives them, except where
 /// such a word is an id of the changed index, so changes keep to these words for ids.
 const IDS: [u32; 3] = [0, 1, 7];
 
+/// The last time of the widest of these rulers. Tables with a time that a ruler does not have are refused.
+const LAST_TIME: u32 = 4;
+
 pub fn search(report: &mut Report) {
-    for (w, m, originals, replicas) in [(1, 0, 6, 0), (1, 1, 6, 2), (2, 1, 7, 3), (2, 2, 6, 7)] {
-        let all = all_indices(w, m, originals, replicas);
+    let rulers = [
+        (bits(1, 0), 6, 0),
+        (bits(1, 1), 6, 2),
+        (bits(2, 1), 7, 3),
+        (bits(2, 2), 6, 7),
+        (spread(0, 0, 1), 6, 0),
+        (spread(1, 1, 3), 7, 3),
+        (spread(2, 0, 3), 6, 7),
+        (spread(2, 2, 4), 6, 7),
+    ];
+    for (ruler, originals, replicas) in rulers {
+        let all = all_indices(ruler, originals, replicas);
         let mut random = Random::new(3);
         for index in &all {
-            report.expect(check(w, m, index) == ACCEPTED, "a built index passes");
+            report.expect(check(ruler, index) == ACCEPTED, "a built index passes");
             for _ in 0..60 {
                 let changed = changed(&mut random, index);
                 let right = if all.contains(&changed) { ACCEPTED } else { refusal(8) };
-                let what = format!("w = {}, m = {}: {:?} is an index or not", w, m, changed);
-                report.expect(check(w, m, &changed) == right, &what);
+                let what = format!("{:?}: {:?} is an index or not", ruler, changed);
+                report.expect(check(ruler, &changed) == right, &what);
             }
         }
     }
@@ -29,11 +44,11 @@ pub fn search(report: &mut Report) {
 
 /// The index of every table of at most two rows with these ids, in arenas of these lengths. The lengths
 /// have no room for a third.
-fn all_indices(w: u32, m: u32, originals: usize, replicas: usize) -> Vec<Index> {
+fn all_indices(ruler: Ruler, originals: usize, replicas: usize) -> Vec<Index> {
     let mut rows = Vec::new();
     for id in IDS {
-        for start in 0..1u32 << w {
-            for end in 0..1u32 << w {
+        for start in 0..=LAST_TIME {
+            for end in 0..=LAST_TIME {
                 rows.push(vec![id, start, end]);
             }
         }
@@ -48,11 +63,11 @@ fn all_indices(w: u32, m: u32, originals: usize, replicas: usize) -> Vec<Index> 
     let mut found: Vec<Index> = Vec::new();
     for table in tables {
         let mut index = Index {
-            directory: vec![0; directory_length(m)],
+            directory: vec![0; directory_length(ruler.m())],
             originals: vec![0; originals],
             replicas: vec![0; replicas],
         };
-        if build(w, m, &table, &mut index) == ACCEPTED && !found.contains(&index) {
+        if build(ruler, &table, &mut index) == ACCEPTED && !found.contains(&index) {
             found.push(index);
         }
     }
@@ -82,6 +97,6 @@ fn small_word(random: &mut Random, at: usize) -> u32 {
     if at % 3 == 0 {
         random.pick(&IDS)
     } else {
-        random.between(0, 4)
+        random.between(0, LAST_TIME)
     }
 }
