@@ -2,20 +2,21 @@
 use mathlib.Core.List.{List, [], _∷_, _++_}
 use Prim.Native.Nat.{ℕ}
 use lib.ListN.{length}
-use Rattle.ruler.specs.Ruler.{Scale, scaleOf, numbersOf}
+use Rattle.ruler.specs.declared.Numbers.{Numbers}
+use Rattle.ruler.specs.Ruler.{scaleOf}
 use Rattle.layout.specs.declared.Outcome.{Outcome}
 use Rattle.layout.specs.Refusals.{numberOf, detailOf, checkOutcome, runOutcome}
 use Rattle.layout.specs.Calls.{index, After, Asked, buildOf, addOf, removeOf, askOf, censusOf, runOf}
 use Rattle.trip.specs.Trips.{tripOf, askingOf}
 
 pub data Call : Type 0 where
-  build : (w m : ℕ) → (table directory originals replicas : List ℕ) → Call
-  check : (w m : ℕ) → (directory originals replicas : List ℕ) → Call
-  add : (w m id start end : ℕ) → (directory originals replicas : List ℕ) → Call
-  remove : (w m id : ℕ) → (directory originals replicas : List ℕ) → Call
-  ask : (w m code start end : ℕ) → (directory originals replicas answers : List ℕ) → Call
-  run : (w m level partition subdivision : ℕ) → (directory originals replicas : List ℕ) → Call
-  census : (w m : ℕ) → (directory originals replicas : List ℕ) → Call
+  build : (n : Numbers) → (table directory originals replicas : List ℕ) → Call
+  check : (n : Numbers) → (directory originals replicas : List ℕ) → Call
+  add : (n : Numbers) → (id start end : ℕ) → (directory originals replicas : List ℕ) → Call
+  remove : (n : Numbers) → (id : ℕ) → (directory originals replicas : List ℕ) → Call
+  ask : (n : Numbers) → (code start end : ℕ) → (directory originals replicas answers : List ℕ) → Call
+  run : (n : Numbers) → (level partition subdivision : ℕ) → (directory originals replicas : List ℕ) → Call
+  census : (n : Numbers) → (directory originals replicas : List ℕ) → Call
 
 pub record Case : Type 0 where
   pub call : Call
@@ -41,15 +42,12 @@ unfoldable pub flat : List (List ℕ) → List ℕ
 flat [] = []
 flat (l ∷ ls) = l ++ flat ls
 
-unfoldable pub ruler : (w m : ℕ) → Scale
-ruler w m = scaleOf (numbersOf w m)
-
 -- what the definitions answer
 unfoldable pub answerOf : Call → List ℕ
-answerOf (build w m t d o r) = after (buildOf (ruler w m) t (index d o r))
-answerOf (check w m d o r) = outcome (checkOutcome (ruler w m) (index d o r))
-answerOf (add w m i s e d o r) = after (addOf (ruler w m) (index d o r) (tripOf i s e))
-answerOf (remove w m i d o r) = after (removeOf (ruler w m) (index d o r) i)
-answerOf (ask w m c s e d o r a) = asked (askOf (ruler w m) (index d o r) (askingOf c s e) a)
-answerOf (run w m L i s d o r) = outcome (runOutcome (ruler w m) (index d o r) L i s) ++ buffer (runOf (ruler w m) (index d o r) L i s)
-answerOf (census w m d o r) = outcome (checkOutcome (ruler w m) (index d o r)) ++ flat (censusOf (ruler w m) (index d o r))
+answerOf (build n t d o r) = after (buildOf (scaleOf n) t (index d o r))
+answerOf (check n d o r) = outcome (checkOutcome (scaleOf n) (index d o r))
+answerOf (add n i s e d o r) = after (addOf (scaleOf n) (index d o r) (tripOf i s e))
+answerOf (remove n i d o r) = after (removeOf (scaleOf n) (index d o r) i)
+answerOf (ask n c s e d o r a) = asked (askOf (scaleOf n) (index d o r) (askingOf c s e) a)
+answerOf (run n L i s d o r) = outcome (runOutcome (scaleOf n) (index d o r) L i s) ++ buffer (runOf (scaleOf n) (index d o r) L i s)
+answerOf (census n d o r) = outcome (checkOutcome (scaleOf n) (index d o r)) ++ flat (censusOf (scaleOf n) (index d o r))

@@ -14,3 +14,8 @@ pub mod Part10
 pub mod Part11
 pub mod Part12
 pub mod Part13
+pub mod Part14
+pub mod Part15
+pub mod Part16
+pub mod Part17
+pub mod Part18
