@@ -22,8 +22,8 @@ use std::io::{self, BufRead, Read, Write};
 use std::process::exit;
 
 const USAGE: &str = "model vectors SEED N [--small] [--each K] [--every-code]
-    prints N calls, each followed by a line with the expected answer; at most K of one call with one number; then every window of a
-    small ruler under every code, over every trip that it has
+    prints N calls, each followed by a line with the expected answer; at most K of one call with one number under one kind of
+    ruler; then every window of a small ruler of each kind under every code, over every trip that it has
 model calls OUT_IN OUT_EXPECTED SEED N [--small]
     the same in two files: the calls, and the expected answers
 model sessions DIR SEED N
@@ -31,14 +31,15 @@ model sessions DIR SEED N
 model compare PROBE SESSION SEED N [--small] [--sessions K] [--wait SECONDS] [--bad-lines]
     runs both programs and compares all they answer; - in place of a program leaves it out
 model agree PROBE SESSION SEED N [--sessions K] [--wait SECONDS] [--bad-lines]
-    the same with N small calls, N / 20 large ones and N / 50 windows under every code; prints how often each call had each number, and
-    fails where one never came, and where the counts of a window do not add up
+    the same with N small calls, N / 20 large ones, N / 50 windows under every code and N / 20 calls with words of one ruler under
+    another; prints how often each call had each number under each kind of ruler, and fails where one never came, where the
+    counts of a window do not add up, and where words of another ruler were never accepted or never refused
 model selftest
     tries the model itself
 model faults SEED N [--small]
     shows that each planted fault is noticed over N calls and as many sessions as compare runs
 model tally SEED N [--small]
-    counts the drawn calls by name and by the number of their answer
+    counts the drawn calls by name, kind of ruler and number of their answer
 model probe, model session
     the model in place of the programs, on standard input and output
 --fault NAME plants a fault in the model's answers (all but selftest and faults)";

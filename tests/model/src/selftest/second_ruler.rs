@@ -110,7 +110,8 @@ fn every_cell(report: &mut Report, m: u32, lo: u32, hi: u32) {
 /// Products past 32 bits: 16,777,215 * 1,023 needs 34.
 fn long_products(report: &mut Report) {
     let widest = spread(10, 0, 16_777_215);
-    for (time, cell) in [(0, 0), (16_400, 0), (16_401, 1), (4_194_304, 255), (8_388_608, 511), (16_777_214, 1_022), (16_777_215, 1_023)] {
+    let cells = [(0, 0), (16_400, 0), (16_401, 1), (4_194_304, 255), (8_388_608, 511), (16_777_214, 1_022), (16_777_215, 1_023)];
+    for (time, cell) in cells {
         report.expect(widest.cell(10, time) == cell, &format!("the longest ruler: {} is in cell {}", time, cell));
         report.expect(counted_cell(10, 0, 16_777_215, time) == cell, "and so by counting");
     }
@@ -157,8 +158,8 @@ fn words_by_hand(report: &mut Report) {
     report.expect(found.len() == 1 && found[0].level == 0, "more cells than times");
 }
 
-/// From 0 to 60 with m = 4 a cell has four times, as on the ruler of 6 bits: the same words are an index under both, if no time is
-/// past 60.
+/// From 0 to 60 with m = 4 a cell has four times, as on the ruler of 6 bits: the same words are an index under both, if no time
+/// is past 60.
 fn under_two_rulers(report: &mut Report) {
     let second = spread(M, 0, 60);
     let rows: Vec<Trip> = example_trips().into_iter().filter(|trip| trip.id != 9).collect();
