@@ -46,8 +46,8 @@ const MOST_ANSWERS: usize = 4_100;
 
 /// The first two big scenes come early, so that a short run meets them with rulers of both kinds; the others are rare, as they
 /// are slow.
-const FIRST_BIG: usize = 200;
-const SECOND_BIG: usize = 400;
+const FIRST_BIG: usize = 100;
+const SECOND_BIG: usize = 250;
 const NEXT_BIG: usize = 2_500;
 
 /// A group of calls that belong together.
