@@ -3,7 +3,9 @@
 
 use super::report::Report;
 use crate::call::{probe_answer, Call, Request};
+use crate::generate::crossings::{crossings, PAIRS};
 use crate::generate::{bad_probe_line, fits, Calls, Size, ENTRIES_OF_THE_LONGEST, FULL, SMALL};
+use crate::model::check::check;
 use crate::model::places::places;
 use crate::model::ruler::{Kind, Ruler, DEEPEST, KINDS};
 use crate::model::trip::trips_of;
@@ -33,6 +35,7 @@ pub fn generator(report: &mut Report) {
         report.expect(missing.is_empty(), &missing.join(", "));
         every_sort_of_ruler(report, size);
     }
+    words_of_another_ruler(report);
 }
 
 /// A build on the deepest ruler of a thousand trips and more, of 18 entries each.
@@ -80,4 +83,18 @@ fn every_sort_of_ruler(report: &mut Report, size: Size) {
     }
     let second = calls.iter().filter(|call| call.ruler.kind() == Kind::Spread).count();
     report.expect(calls.len() / 3 < second && second < calls.len() * 2 / 3, "either kind has a third of the calls at least");
+}
+
+/// For each pair of kinds: words with trips, on a ruler of more than one level, that pass under the other ruler, and words that get 8.
+fn words_of_another_ruler(report: &mut Report) {
+    for (number, pair) in PAIRS.iter().enumerate() {
+        let calls: Vec<Call> = crossings(25).skip(number).step_by(PAIRS.len()).take(200).collect();
+        report.expect(calls.iter().all(|call| call.ruler.kind() == pair.1), "a call names the second of its pair");
+        let with_trips = |call: &&Call| call.ruler.m() > 0 && call.index.originals.iter().any(|word| *word > 0);
+        let many = |number: u32| {
+            calls.iter().filter(with_trips).filter(|call| check(call.ruler, &call.index).number == number).count()
+        };
+        report.expect(many(0) > 10, &format!("{:?}: {} indices with trips pass under the other ruler", pair, many(0)));
+        report.expect(many(8) > 10, &format!("{:?}: {} indices with trips get 8", pair, many(8)));
+    }
 }
