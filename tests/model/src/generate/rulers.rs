@@ -107,7 +107,7 @@ pub fn wide_ruler(random: &mut Random, kind: Kind, m: u32) -> Ruler {
     Ruler::Spread { m, lo, hi: lo + long }
 }
 
-/// At m = 9 and 10 most products need more than 32 bits.
+/// At m = 9 and 10 many of its products need more than 32 bits.
 pub fn very_long_ruler(random: &mut Random, m: u32) -> Ruler {
     let lo = random.between(0, LATEST / 4);
     let hi = random.between(LATEST - LATEST / 4, LATEST);
