@@ -5,7 +5,8 @@ use mathlib.Core.List.{List}
 use Prim.Native.Nat.{ℕ, _^_, _<_}
 use native.Mathlib.Omega.{arith}
 use lib.Dec.{ltb}
-use Rattle.ruler.specs.Ruler.{scaleOf, numbersOf}
+use Rattle.ruler.specs.declared.Numbers.{Numbers}
+use Rattle.ruler.specs.Ruler.{scaleOf}
 use Rattle.layout.specs.declared.Outcome.{Outcome}
 use Rattle.layout.specs.declared.Outcome.the-variants.{Accepted, Refused}
 use Rattle.layout.specs.Words.{Index}
@@ -36,14 +37,14 @@ unfolding isAccepted ifAccepted arenaOf
 arena-said Accepted d b e = ap (λ (c : Bool). cond c 0 1) (sym e)
 arena-said (Refused why k) d b e = ap (λ (c : Bool). cond c 0 1) (sym e)
 
-module _ (w m L i d : ℕ) (x : Index) {p : Place} (e : p ≡ placeOf (scaleOf (numbersOf w m)) x L i d) where
+module _ (n : Numbers) (L i d : ℕ) (x : Index) {p : Place} (e : p ≡ placeOf (scaleOf n) x L i d) where
   -- its words are few, so that 32 bits tell where it begins and how long it is
   pub run-small : (p .from < 2 ^ 32) × (p .length < 2 ^ 32)
   run-small =
-      let ends = run-ends (numbersOf w m) x L i d in
+      let ends = run-ends n x L i d in
       rw e (omega (arith, ends), omega (arith, ends))
 
   pub run-shown : {k a : ℕ} → k ≡ numberOf (p .outcome) → a ≡ ifAccepted (p .outcome) (arenaOf d) 0
-      → shown k a (p .from) (p .length) ≡ runSaid w m L i d x
+      → shown k a (p .from) (p .length) ≡ runSaid n L i d x
   unfolding runSaid
   run-shown f g = rw (f, g, e)

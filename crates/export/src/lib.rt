@@ -1,5 +1,5 @@
 // What other languages link: one C function for each public entry, over numbers and slices. Each takes the entry's outcome apart into the
-// numbers of document 01, and does nothing else.
+// numbers of document 01, and does nothing else. A ruler is one value for all of them; two functions make it.
 use layout::Outcome;
 use ruler::Numbers;
 use trip::Asking;
@@ -9,7 +9,29 @@ use view::SUBDIVISIONS;
 ghost use mathlib.Core.Path.{_≡_};
 ghost use lib.ListN.{length};
 ghost use Rattle.layout.specs.Calls.{index, ifAccepted};
+ghost use Rattle.export.specs.Said.{bitsNamed, spreadNamed, numbersNamed};
 ghost use Rattle.export.specs.Said.{saidOf, left, told, buildSaid, addSaid, removeSaid, checkSaid, askSaid, counted, censusSaid, arenaOf, runSaid};
+
+// A ruler as C holds it: its kind, m, and the other numbers of that kind: w, or lo and hi. Four words, so that a call takes them in two
+// registers. C may write anything into them: what they name is judged by each call.
+#[repr(C)]
+pub struct Named {
+    pub kind: u32,
+    pub m: u32,
+    pub first: u32,
+    pub second: u32,
+}
+
+// The kinds.
+const BITS: u32 = 0;
+
+const SPREAD: u32 = 1;
+
+// Stands in a word that a kind has no number for.
+const UNUSED: u32 = 0;
+
+// The width that no ruler has.
+const NO_WIDTH: u32 = 0;
 
 // The number of refusal, or 0, and its detail.
 #[repr(C)]
@@ -48,6 +70,24 @@ fn arena_of(outcome: Outcome, subdivision: u32) -> u32
     1
 }
 
+// The numbers that a ruler of C names. Another kind names a width that no ruler has, so every call refuses it with 1.
+fn numbers_named(ruler: Named) -> Numbers
+    ensures { λ r. ⌜ r ≡ numbersNamed ruler ⌝ }
+{
+    let m = ruler.m;
+    if ruler.kind == BITS {
+        return Numbers::Bits { w: ruler.first, m };
+    }
+    if ruler.kind == SPREAD {
+        return Numbers::Spread {
+            m,
+            lo: ruler.first,
+            hi: ruler.second,
+        };
+    }
+    Numbers::Bits { w: NO_WIDTH, m }
+}
+
 // An outcome in the numbers of document 01.
 fn in_numbers(outcome: Outcome) -> Said
     ensures { λ r. ⌜ r ≡ saidOf outcome ⌝ }
@@ -58,10 +98,35 @@ fn in_numbers(outcome: Outcome) -> Said
     }
 }
 
+// The ruler of the times 0 to 2^w - 1.
+#[no_mangle]
+pub extern "C" fn kheyambo_bits(w: u32, m: u32) -> Named
+    ensures { λ r. ⌜ r ≡ bitsNamed w m ⌝ }
+{
+    Named {
+        kind: BITS,
+        m,
+        first: w,
+        second: UNUSED,
+    }
+}
+
+// The ruler that is spread over the times lo to hi.
+#[no_mangle]
+pub extern "C" fn kheyambo_spread(m: u32, lo: u32, hi: u32) -> Named
+    ensures { λ r. ⌜ r ≡ spreadNamed m lo hi ⌝ }
+{
+    Named {
+        kind: SPREAD,
+        m,
+        first: lo,
+        second: hi,
+    }
+}
+
 #[no_mangle]
 pub extern "C" fn kheyambo_build(
-    w: u32,
-    m: u32,
+    ruler: Named,
     table: &[u32],
     directory: &mut [u32],
     originals: &mut [u32],
@@ -69,34 +134,26 @@ pub extern "C" fn kheyambo_build(
 ) -> Said
     ensures { λ r.
         ⌜ left r (index (now (directory .exit)) (now (originals .exit)) (now (replicas .exit)))
-        ≡ buildSaid w m (now (table .entry)) (index (now (directory .entry)) (now (originals .entry)) (now (replicas .entry))) ⌝ }
+        ≡ buildSaid (numbersNamed ruler) (now (table .entry)) (index (now (directory .entry)) (now (originals .entry)) (now (replicas .entry))) ⌝ }
 {
-    in_numbers(build::build(
-        Numbers::Bits { w, m },
-        table,
-        directory,
-        originals,
-        replicas,
-    ))
+    in_numbers(build::build(numbers_named(ruler), table, directory, originals, replicas))
 }
 
 #[no_mangle]
 pub extern "C" fn kheyambo_check(
-    w: u32,
-    m: u32,
+    ruler: Named,
     directory: &[u32],
     originals: &[u32],
     replicas: &[u32],
 ) -> Said
-    ensures { λ r. ⌜ r ≡ checkSaid w m (index (now (directory .entry)) (now (originals .entry)) (now (replicas .entry))) ⌝ }
+    ensures { λ r. ⌜ r ≡ checkSaid (numbersNamed ruler) (index (now (directory .entry)) (now (originals .entry)) (now (replicas .entry))) ⌝ }
 {
-    in_numbers(verify::check(Numbers::Bits { w, m }, directory, originals, replicas))
+    in_numbers(verify::check(numbers_named(ruler), directory, originals, replicas))
 }
 
 #[no_mangle]
 pub extern "C" fn kheyambo_add(
-    w: u32,
-    m: u32,
+    ruler: Named,
     id: u32,
     start: u32,
     end: u32,
@@ -106,16 +163,15 @@ pub extern "C" fn kheyambo_add(
 ) -> Said
     ensures { λ r.
         ⌜ left r (index (now (directory .exit)) (now (originals .exit)) (now (replicas .exit)))
-        ≡ addSaid w m id start end (index (now (directory .entry)) (now (originals .entry)) (now (replicas .entry))) ⌝ }
+        ≡ addSaid (numbersNamed ruler) id start end (index (now (directory .entry)) (now (originals .entry)) (now (replicas .entry))) ⌝ }
 {
     let t = Trip::of(id, start, end);
-    in_numbers(edit::add(Numbers::Bits { w, m }, directory, originals, replicas, t))
+    in_numbers(edit::add(numbers_named(ruler), directory, originals, replicas, t))
 }
 
 #[no_mangle]
 pub extern "C" fn kheyambo_remove(
-    w: u32,
-    m: u32,
+    ruler: Named,
     id: u32,
     directory: &mut [u32],
     originals: &mut [u32],
@@ -123,15 +179,14 @@ pub extern "C" fn kheyambo_remove(
 ) -> Said
     ensures { λ r.
         ⌜ left r (index (now (directory .exit)) (now (originals .exit)) (now (replicas .exit)))
-        ≡ removeSaid w m id (index (now (directory .entry)) (now (originals .entry)) (now (replicas .entry))) ⌝ }
+        ≡ removeSaid (numbersNamed ruler) id (index (now (directory .entry)) (now (originals .entry)) (now (replicas .entry))) ⌝ }
 {
-    in_numbers(edit::remove(Numbers::Bits { w, m }, directory, originals, replicas, id))
+    in_numbers(edit::remove(numbers_named(ruler), directory, originals, replicas, id))
 }
 
 #[no_mangle]
 pub extern "C" fn kheyambo_ask<'a>(
-    w: u32,
-    m: u32,
+    ruler: Named,
     code: u32,
     start: u32,
     end: u32,
@@ -142,11 +197,11 @@ pub extern "C" fn kheyambo_ask<'a>(
 ) -> Told
     ensures { λ r.
         ⌜ told r (now (answers .exit))
-        ≡ askSaid w m code start end (index (now (directory .entry)) (now (originals .entry)) (now (replicas .entry))) (now (answers .entry)) ⌝ }
+        ≡ askSaid (numbersNamed ruler) code start end (index (now (directory .entry)) (now (originals .entry)) (now (replicas .entry))) (now (answers .entry)) ⌝ }
 {
     let asking = Asking::of(code, start, end);
     let answered = ask::ask(
-        Numbers::Bits { w, m },
+        numbers_named(ruler),
         directory,
         originals,
         replicas,
@@ -164,8 +219,7 @@ pub extern "C" fn kheyambo_ask<'a>(
 // The counts of the census, row after row, into a lent array.
 #[no_mangle]
 pub extern "C" fn kheyambo_census(
-    w: u32,
-    m: u32,
+    ruler: Named,
     directory: &[u32],
     originals: &[u32],
     replicas: &[u32],
@@ -173,9 +227,9 @@ pub extern "C" fn kheyambo_census(
 ) -> Said
     ensures { λ r.
         ⌜ counted r (now (counts .exit))
-        ≡ censusSaid w m (index (now (directory .entry)) (now (originals .entry)) (now (replicas .entry))) ⌝ }
+        ≡ censusSaid (numbersNamed ruler) (index (now (directory .entry)) (now (originals .entry)) (now (replicas .entry))) ⌝ }
 {
-    let opened = verify::open(Numbers::Bits { w, m }, directory, originals, replicas);
+    let opened = verify::open(numbers_named(ruler), directory, originals, replicas);
     let rows = view::rows_opened(opened, directory);
     *counts = rows;
     in_numbers(verify::outcome_of(opened))
@@ -184,8 +238,7 @@ pub extern "C" fn kheyambo_census(
 // A run: where it stands in the arenas, and nothing copied.
 #[no_mangle]
 pub extern "C" fn kheyambo_run<'a>(
-    w: u32,
-    m: u32,
+    ruler: Named,
     level: u32,
     partition: u32,
     subdivision: u32,
@@ -193,10 +246,10 @@ pub extern "C" fn kheyambo_run<'a>(
     originals: &'a [u32],
     replicas: &'a [u32],
 ) -> Shown
-    ensures { λ r. ⌜ r ≡ runSaid w m level partition subdivision (index (now (directory .entry)) (now (originals .entry)) (now (replicas .entry))) ⌝ }
+    ensures { λ r. ⌜ r ≡ runSaid (numbersNamed ruler) level partition subdivision (index (now (directory .entry)) (now (originals .entry)) (now (replicas .entry))) ⌝ }
 {
     let place = view::run_place(
-        Numbers::Bits { w, m },
+        numbers_named(ruler),
         directory,
         originals,
         replicas,

@@ -5,6 +5,9 @@ use borrow.Author.Needs.{needs}
 use Rattle.export.proofs.kheyambo_check.Statement.{statement}
 use Rattle.export.proofs.kheyambo_check.Tie as tie
 
+numbers-named-requires : tie.Need-numbers-named-requires
+numbers-named-requires c κs = search needs
+
 check-requires : tie.Need-check-requires
 check-requires c κs = search needs
 
@@ -13,7 +16,7 @@ in-numbers-requires c κs = search needs
 
 returns : tie.Need-returns
 unfolding checkSaid
-returns c = c .in-numbers .ensures ∙ ap saidOf (c .before .check .ensures)
+returns c = c .in-numbers .ensures ∙ ap saidOf (rw (c .before .before .numbers-named .ensures) at (c .before .check .ensures))
 
 pub kheyambo-check-spec : {M : Type 1} → statement M
-kheyambo-check-spec = tie.close (tie.spec check-requires in-numbers-requires returns)
+kheyambo-check-spec = tie.close (tie.spec numbers-named-requires check-requires in-numbers-requires returns)
