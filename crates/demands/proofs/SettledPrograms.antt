@@ -3,6 +3,8 @@ use mathlib.Core.Path.{_≡_, sym, ap, _∙_}
 use mathlib.Core.List.{List, []}
 use Prim.Native.Nat.{ℕ}
 use Rattle.layout.specs.Words.{Index}
+use Rattle.export.specs.declared.Named.{Named}
+use Rattle.export.specs.Said.{bitsNamed, spreadNamed, numbersNamed}
 use Rattle.export.specs.Said.{Left, left, Heard, told, Counted, counted, buildSaid, checkSaid, addSaid, removeSaid, askSaid, censusSaid, runSaid}
 use Rattle.layout.specs.Calls.{index}
 use Rattle.text.specs.Bytes.{space, placeOf}
@@ -33,27 +35,33 @@ one-counted said r q c d e f =
     let same = settled said (counted r c) (counted q d) e f in
     (ap (λ (a : Counted). a .said) same, ap (λ (a : Counted). a .counts) same)
 
-module _ (w m : ℕ) (x : Index) where
-  pub kheyambo-build-settled : (table : List ℕ) → OneLeft (buildSaid w m table x)
-  kheyambo-build-settled table = one-left (buildSaid w m table x)
+pub kheyambo-bits-settled : (w m : ℕ) → One (bitsNamed w m)
+kheyambo-bits-settled w m = settled (bitsNamed w m)
 
-  pub kheyambo-check-settled : One (checkSaid w m x)
-  kheyambo-check-settled = settled (checkSaid w m x)
+pub kheyambo-spread-settled : (m lo hi : ℕ) → One (spreadNamed m lo hi)
+kheyambo-spread-settled m lo hi = settled (spreadNamed m lo hi)
 
-  pub kheyambo-add-settled : (id start end : ℕ) → OneLeft (addSaid w m id start end x)
-  kheyambo-add-settled id start end = one-left (addSaid w m id start end x)
+module _ (r : Named) (x : Index) where
+  pub kheyambo-build-settled : (table : List ℕ) → OneLeft (buildSaid (numbersNamed r) table x)
+  kheyambo-build-settled table = one-left (buildSaid (numbersNamed r) table x)
 
-  pub kheyambo-remove-settled : (id : ℕ) → OneLeft (removeSaid w m id x)
-  kheyambo-remove-settled id = one-left (removeSaid w m id x)
+  pub kheyambo-check-settled : One (checkSaid (numbersNamed r) x)
+  kheyambo-check-settled = settled (checkSaid (numbersNamed r) x)
 
-  pub kheyambo-ask-settled : (code start end : ℕ) (list : List ℕ) → OneHeard (askSaid w m code start end x list)
-  kheyambo-ask-settled code start end list = one-heard (askSaid w m code start end x list)
+  pub kheyambo-add-settled : (id start end : ℕ) → OneLeft (addSaid (numbersNamed r) id start end x)
+  kheyambo-add-settled id start end = one-left (addSaid (numbersNamed r) id start end x)
 
-  pub kheyambo-census-settled : OneCounted (censusSaid w m x)
-  kheyambo-census-settled = one-counted (censusSaid w m x)
+  pub kheyambo-remove-settled : (id : ℕ) → OneLeft (removeSaid (numbersNamed r) id x)
+  kheyambo-remove-settled id = one-left (removeSaid (numbersNamed r) id x)
 
-  pub kheyambo-run-settled : (L i d : ℕ) → One (runSaid w m L i d x)
-  kheyambo-run-settled L i d = settled (runSaid w m L i d x)
+  pub kheyambo-ask-settled : (code start end : ℕ) (list : List ℕ) → OneHeard (askSaid (numbersNamed r) code start end x list)
+  kheyambo-ask-settled code start end list = one-heard (askSaid (numbersNamed r) code start end x list)
+
+  pub kheyambo-census-settled : OneCounted (censusSaid (numbersNamed r) x)
+  kheyambo-census-settled = one-counted (censusSaid (numbersNamed r) x)
+
+  pub kheyambo-run-settled : (L i d : ℕ) → One (runSaid (numbersNamed r) L i d x)
+  kheyambo-run-settled L i d = settled (runSaid (numbersNamed r) L i d x)
 
 -- ---- a line of the session: its fields, numbers and meaning, and a number written
 
