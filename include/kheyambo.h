@@ -1,7 +1,14 @@
 /* Kheyambo: a proved index over the running times of trips. The functions of the exported library.
 
-   Times are seconds of the service day and may pass 24:00:00. A ruler is two numbers: w, and m for the index's deepest level; it has the
-   times 0 to 2^w - 1. w = 18 and m = 10 reach 72:49:03.
+   Times are seconds of the service day and may pass 24:00:00. A ruler says which times there are, and parts them into 2^m cells at the index's
+   deepest level, m. It is of one of two kinds, and each has its maker:
+   - kheyambo_bits(w, m) has the times 0 to 2^w - 1, in cells of 2^(w - m) seconds. w = 18 and m = 10 reach 72:49:03.
+   - kheyambo_spread(m, lo, hi) has the times lo to hi, both included, and spreads its cells over them: kheyambo_spread(10, 0, 100800) for a timetable that
+     ends at 28:00. Times are given and kept as they are, not less lo.
+   Every call takes a ruler first. Its fields are for the makers to fill; no value of them does harm, and one that names no ruler is refused with 1.
+
+   The words of an index carry no ruler. Name with an index the ruler that it was made with: under another one its words may be no index at all, which
+   is refused with 8.
 
    What you promise. Every pointer is valid for its length in 32-bit words, and no buffer that is written overlaps another. Nothing else:
    each function looks at its own input, on words of every kind, and refuses with a number. The words of an index may have come from anywhere.
@@ -13,7 +20,7 @@
    Threads. The functions share nothing and keep nothing: no globals, no heap, no locks. Any number may run at once as long as the buffers
    that a call writes are no other call's; calls that only read (check, ask, census, run) may share an index.
 
-   Stack. Every call runs on a stack of 4 KiB: 3,624 bytes were the most that any took, on the largest inputs (docs/FIGURES.md has each function's).
+   Stack. Every call runs on a stack of 4 KiB: 3,736 bytes were the most that any took, on the largest inputs (docs/FIGURES.md has each function's).
    Ids are put in order in your answer list itself.
 
    A pointer is followed by its length in words. */
@@ -30,14 +37,14 @@ extern "C" {
 /* ---- Limits */
 
 enum {
-    KHEYAMBO_WIDEST = 24,          /* w is 1 to 24 */
-    KHEYAMBO_DEEPEST = 10,         /* m is 0 to 10, and at most w */
+    KHEYAMBO_WIDEST = 24,          /* w is 1 to 24; lo < hi < 2^24 */
+    KHEYAMBO_DEEPEST = 10,         /* m is 0 to 10; beside w at most w, beside lo and hi whatever hi - lo is */
     KHEYAMBO_MOST_TRIPS = 4096,    /* the trips of an index, and the rows of a table */
     KHEYAMBO_MOST_ENTRIES = 18,    /* the most entries of one trip, in both arenas together (m = 10) */
     KHEYAMBO_ENTRY_WORDS = 3       /* the words of a table's row and of an index's entry: id, start, end */
 };
 
-/* The words of a directory for m, which must be exact: 6 for m = 0, 8,190 for m = 10. 0 where there is no such m. */
+/* The words of a directory for m, which must be exact, on a ruler of either kind: 6 for m = 0, 8,190 for m = 10. 0 where there is no such m. */
 static inline size_t kheyambo_directory_words(uint32_t m) {
     return m > KHEYAMBO_DEEPEST ? 0 : 4 * (((size_t)2 << m) - 1) + 2;
 }
@@ -81,7 +88,7 @@ enum {
     KHEYAMBO_RULER_OUT_OF_BOUNDS = 1,
     KHEYAMBO_TABLE_SIZE = 2,           /* build: no whole rows, or over 4,096; add: 4,096 trips already */
     KHEYAMBO_DIRECTORY_LENGTH = 3,     /* not kheyambo_directory_words(m) */
-    KHEYAMBO_OFF_RULER = 4,            /* a start or end is 2^w or more. Detail, in a build: the row, from 0 */
+    KHEYAMBO_OFF_RULER = 4,            /* a start or end isn't on the ruler: 2^w or more, or outside lo..hi. Detail, in a build: the row, from 0 */
     KHEYAMBO_BACKWARD = 5,             /* start > end: a night trip whose end was wrapped? Detail as for 4 */
     KHEYAMBO_ID_TAKEN = 6,             /* Detail as for 4 */
     KHEYAMBO_NO_ROOM = 7,              /* an arena or the answer list is too short. Detail, in a question: the matches */
@@ -91,6 +98,22 @@ enum {
     /* 11 is given by no call and isn't used again: docs/REFUSALS.md */
     KHEYAMBO_NO_SUCH_SLOT = 12
 };
+
+/* ---- Rulers */
+
+/* A ruler of either kind, as kheyambo_bits and kheyambo_spread make it. The fields are theirs to fill: the last two are w, or lo and hi. */
+typedef struct {
+    uint32_t kind;
+    uint32_t m;
+    uint32_t first;
+    uint32_t second;
+} kheyambo_ruler;
+
+/* The ruler of the times 0 to 2^w - 1. It judges nothing: a call on a ruler out of bounds is refused with 1. */
+kheyambo_ruler kheyambo_bits(uint32_t w, uint32_t m);
+
+/* The ruler of the times lo to hi, judged by the calls too. */
+kheyambo_ruler kheyambo_spread(uint32_t m, uint32_t lo, uint32_t hi);
 
 /* ---- What the calls answer */
 
@@ -127,40 +150,40 @@ typedef uint32_t kheyambo_counts[KHEYAMBO_LEVELS][KHEYAMBO_SUBDIVISIONS];
 
 /* Builds the index of a table of rows, over whatever the words were. Refuses 1, 2, 3; for the first bad row 4, 5, 6; 7.
    Cost: one pass for each level of each trip, and a sort of each slot and of the ids; n log n at the most. */
-kheyambo_said kheyambo_build(uint32_t w, uint32_t m, const uint32_t *table, size_t table_words, uint32_t *directory,
+kheyambo_said kheyambo_build(kheyambo_ruler ruler, const uint32_t *table, size_t table_words, uint32_t *directory,
                              size_t directory_words, uint32_t *originals, size_t originals_words, uint32_t *replicas,
                              size_t replicas_words);
 
 /* Whether the words are the index of some table for this ruler and these lengths. Refuses 1, 3, 8.
    Cost: about that of a build. Every call below begins with it, and it is nearly all that they cost. */
-kheyambo_said kheyambo_check(uint32_t w, uint32_t m, const uint32_t *directory, size_t directory_words,
+kheyambo_said kheyambo_check(kheyambo_ruler ruler, const uint32_t *directory, size_t directory_words,
                              const uint32_t *originals, size_t originals_words, const uint32_t *replicas,
                              size_t replicas_words);
 
 /* Adds a trip: every word is then what a build with it would write. Refuses 1, 3, 8, 2, 4, 5, 6, 7.
    Cost: a check, and for each entry of the trip a move of the entries after it. */
-kheyambo_said kheyambo_add(uint32_t w, uint32_t m, uint32_t id, uint32_t start, uint32_t end, uint32_t *directory,
+kheyambo_said kheyambo_add(kheyambo_ruler ruler, uint32_t id, uint32_t start, uint32_t end, uint32_t *directory,
                            size_t directory_words, uint32_t *originals, size_t originals_words, uint32_t *replicas,
                            size_t replicas_words);
 
 /* Removes the trip with this id: every word is then what a build without it would write. Refuses 1, 3, 8, 10. Cost: as an addition. */
-kheyambo_said kheyambo_remove(uint32_t w, uint32_t m, uint32_t id, uint32_t *directory, size_t directory_words,
+kheyambo_said kheyambo_remove(kheyambo_ruler ruler, uint32_t id, uint32_t *directory, size_t directory_words,
                               uint32_t *originals, size_t originals_words, uint32_t *replicas, size_t replicas_words);
 
 /* Lists the ids of the trips to which the window stands so, in ascending order, in the first words of answers; later words stay. The window
    is closed at both ends. An answer list of as many words as the index has trips is always long enough.
    Refuses 1, 3, 8, 9, 4, 5, 7. Cost: a check, the matches, and a sort of them. */
-kheyambo_told kheyambo_ask(uint32_t w, uint32_t m, uint32_t code, uint32_t start, uint32_t end, const uint32_t *directory,
+kheyambo_told kheyambo_ask(kheyambo_ruler ruler, uint32_t code, uint32_t start, uint32_t end, const uint32_t *directory,
                            size_t directory_words, const uint32_t *originals, size_t originals_words,
                            const uint32_t *replicas, size_t replicas_words, uint32_t *answers, size_t answers_words);
 
 /* Counts the entries of each subdivision at each level; all zeros on a refusal. Refuses 1, 3, 8. Cost: a check, and a pass over the directory. */
-kheyambo_said kheyambo_census(uint32_t w, uint32_t m, const uint32_t *directory, size_t directory_words,
+kheyambo_said kheyambo_census(kheyambo_ruler ruler, const uint32_t *directory, size_t directory_words,
                               const uint32_t *originals, size_t originals_words, const uint32_t *replicas,
                               size_t replicas_words, kheyambo_counts *counts);
 
 /* Where the entries of one subdivision of a partition stand. Refuses 1, 3, 8, 12. Cost: a check. */
-kheyambo_shown kheyambo_run(uint32_t w, uint32_t m, uint32_t level, uint32_t partition, uint32_t subdivision,
+kheyambo_shown kheyambo_run(kheyambo_ruler ruler, uint32_t level, uint32_t partition, uint32_t subdivision,
                             const uint32_t *directory, size_t directory_words, const uint32_t *originals,
                             size_t originals_words, const uint32_t *replicas, size_t replicas_words);
 
