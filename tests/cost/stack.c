@@ -1,9 +1,9 @@
 /* stack: each C function on a stack of its own of STACK bytes, a board's 4,096. The stack is painted before each call, and what is no longer painted
    was used; below it nothing may be touched, so that a call which needs more faults and spoils no memory. The inputs are the largest, accepted and
-   refused, and each call states the number that it must answer.
+   refused, on rulers of both kinds, and each call states the number that it must answer.
 
-   Prints `name | calls | most bytes` for each function, without what an empty call uses; ends with 1 where a call needed more than there is, with
-   that, or answered another number. */
+   Prints `name | ruler | calls | most bytes` for each function on each kind of ruler, without what an empty call uses; ends with 1 where a call needed more
+   than there is, with that, or answered another number. */
 #include <signal.h>
 #include <stdio.h>
 #include <stdlib.h>
@@ -19,7 +19,7 @@
 #endif
 
 enum {
-    W = 18, M = 10, LAST = (1 << W) - 1, CELL = 1 << (W - M), TRIPS = KHEYAMBO_MOST_TRIPS, ROW = KHEYAMBO_ENTRY_WORDS,
+    W = 18, M = 10, LO = 14400, HI = 100800, TRIPS = KHEYAMBO_MOST_TRIPS, ROW = KHEYAMBO_ENTRY_WORDS,
     DIRECTORY = 8190, HALF = DIRECTORY / 2, ORIGINALS = ROW * TRIPS, REPLICAS = ORIGINALS * (KHEYAMBO_MOST_ENTRIES - 1),
     BELOW = 1 << 20, /* bytes: one page would not stop a call that takes several at once */
     PAINT = 0xa5
@@ -32,7 +32,8 @@ static uint32_t table[ORIGINALS + ROW], directory[DIRECTORY + ROW], originals[OR
 static kheyambo_counts counts;
 
 static struct {
-    uint32_t w, m, code, id, start, end, level, partition, subdivision;
+    kheyambo_ruler ruler;
+    uint32_t code, id, start, end, level, partition, subdivision;
     size_t table, directory, originals, replicas, answers;
 } given;
 
@@ -41,41 +42,63 @@ static uint32_t number, count;
 #define INDEX directory, given.directory, originals, given.originals, replicas, given.replicas
 
 static void nothing(void) {}
-static void build(void) { number = kheyambo_build(given.w, given.m, table, given.table, INDEX).number; }
-static void check(void) { number = kheyambo_check(given.w, given.m, INDEX).number; }
-static void add(void) { number = kheyambo_add(given.w, given.m, given.id, given.start, given.end, INDEX).number; }
-static void take(void) { number = kheyambo_remove(given.w, given.m, given.id, INDEX).number; }
-static void census(void) { number = kheyambo_census(given.w, given.m, INDEX, &counts).number; }
-static void run(void) { number = kheyambo_run(given.w, given.m, given.level, given.partition, given.subdivision, INDEX).number; }
+static void bits(void) { given.ruler = kheyambo_bits(W, M); }
+static void spread(void) { given.ruler = kheyambo_spread(M, LO, HI); }
+static void build(void) { number = kheyambo_build(given.ruler, table, given.table, INDEX).number; }
+static void check(void) { number = kheyambo_check(given.ruler, INDEX).number; }
+static void add(void) { number = kheyambo_add(given.ruler, given.id, given.start, given.end, INDEX).number; }
+static void take(void) { number = kheyambo_remove(given.ruler, given.id, INDEX).number; }
+static void census(void) { number = kheyambo_census(given.ruler, INDEX, &counts).number; }
+static void run(void) { number = kheyambo_run(given.ruler, given.level, given.partition, given.subdivision, INDEX).number; }
 
 static void ask(void) {
-    kheyambo_told told = kheyambo_ask(given.w, given.m, given.code, given.start, given.end, INDEX, answers, given.answers);
+    kheyambo_told told = kheyambo_ask(given.ruler, given.code, given.start, given.end, INDEX, answers, given.answers);
     number = told.number;
     count = told.count;
 }
 
 enum { BUILD = 1, CHECK = 2, ADD = 4, REMOVE = 8, ASK = 16, CENSUS = 32, RUN = 64, ON_INDEX = 126, EVERY = 127, FUNCTIONS = 7 };
 
-static struct {
+static const struct {
     const char *name;
     void (*enter)(void);
-    size_t calls, over, most;
 } functions[FUNCTIONS] = {
-    {"build", build, 0, 0, 0}, {"check", check, 0, 0, 0}, {"add", add, 0, 0, 0}, {"remove", take, 0, 0, 0},
-    {"ask", ask, 0, 0, 0}, {"census", census, 0, 0, 0}, {"run", run, 0, 0, 0},
+    {"build", build}, {"check", check}, {"add", add}, {"remove", take}, {"ask", ask}, {"census", census}, {"run", run},
 };
+
+/* ---- Rulers, one of each kind */
+
+static uint32_t cell_by_bits(uint32_t t) { return t >> (W - M); }
+static uint32_t cell_by_spread(uint32_t t) { return (uint32_t)((uint64_t)(t - LO) * ((1 << M) - 1) / (HI - LO)); }
+
+/* Its first and last second, the first of its second cell and the last of its last cell but one: a trip between these two lies in the most partitions. */
+static const struct ruler {
+    const char *name;
+    void (*named)(void);
+    uint32_t (*cell)(uint32_t t);
+    uint32_t first, last, second_cell, last_but_one;
+} rulers[] = {
+    {"18 bits", bits, cell_by_bits, 0, (1 << W) - 1, 1 << (W - M), (1 << W) - (1 << (W - M)) - 1},
+    {"04:00 to 28:00", spread, cell_by_spread, LO, HI, LO + 85, HI - 1},
+};
+
+enum { RULERS = sizeof rulers / sizeof rulers[0] };
+
+static const struct ruler *on = rulers;
 
 /* ---- Tables of trips */
 
-/* The 4,096 starts, 64 seconds apart, in no order. */
-static uint32_t start_of(uint32_t i) { return i * 1597 % TRIPS * (CELL / 4); }
+static uint32_t between_starts(void) { return (on->last - on->first + 1) / TRIPS; }
 
-static void in_most_partitions(uint32_t i, uint32_t *row) { (void)i; row[1] = CELL, row[2] = LAST - CELL; }
-static void to_the_end(uint32_t i, uint32_t *row) { row[1] = start_of(i), row[2] = LAST; }
-static void of_all_lengths(uint32_t i, uint32_t *row) { row[1] = start_of(i), row[2] = row[1] + i * 2654435761u % (LAST + 1 - row[1]); }
-static void brief(uint32_t i, uint32_t *row) { row[1] = start_of(i), row[2] = row[1] + i % (CELL / 4); }
+/* The 4,096 starts, evenly over the ruler, in no order. */
+static uint32_t start_of(uint32_t i) { return on->first + i * 1597 % TRIPS * between_starts(); }
+
+static void in_most_partitions(uint32_t i, uint32_t *row) { (void)i; row[1] = on->second_cell, row[2] = on->last_but_one; }
+static void to_the_end(uint32_t i, uint32_t *row) { row[1] = start_of(i), row[2] = on->last; }
+static void of_all_lengths(uint32_t i, uint32_t *row) { row[1] = start_of(i), row[2] = row[1] + i * 2654435761u % (on->last + 1 - row[1]); }
+static void brief(uint32_t i, uint32_t *row) { row[1] = start_of(i), row[2] = row[1] + i % between_starts(); }
 static void points(uint32_t i, uint32_t *row) { row[1] = row[2] = start_of(i); }
-static void in_one_slot(uint32_t i, uint32_t *row) { (void)i; row[1] = row[2] = LAST; }
+static void in_one_slot(uint32_t i, uint32_t *row) { (void)i; row[1] = row[2] = on->last; }
 
 #define NAMED(name) {#name, name}
 
@@ -124,23 +147,29 @@ static void prepare(size_t t, size_t d, unsigned function) {
         table[ROW * i] = ids[d].of(i);
         times[t].put(i, table + ROW * i);
     }
-    given.w = W, given.m = M, given.code = KHEYAMBO_G_OVERLAPS;
-    given.id = row[0], given.start = function == ASK ? 0 : row[1], given.end = function == ASK ? LAST : row[2];
-    given.level = M, given.partition = table[1] / CELL, given.subdivision = KHEYAMBO_O_IN;
+    on->named();
+    given.code = KHEYAMBO_G_OVERLAPS;
+    given.id = row[0], given.start = function == ASK ? on->first : row[1], given.end = function == ASK ? on->last : row[2];
+    given.level = M, given.partition = on->cell(table[1]), given.subdivision = KHEYAMBO_O_IN;
     given.table = ORIGINALS, given.directory = DIRECTORY, given.originals = ORIGINALS, given.replicas = REPLICAS, given.answers = TRIPS;
     memset(originals + ORIGINALS, 0, sizeof(uint32_t) * ROW);
     memset(replicas + REPLICAS, 0, sizeof(uint32_t) * ROW);
     lay_out(function == ADD ? TRIPS - 1 : TRIPS);
 }
 
-/* ---- What is changed of that, by a number. Each says whether this table has what it changes. */
+/* ---- What is changed of that, by a number. Each says whether this table and this ruler have what it changes. */
 
 static int unchanged(uint32_t x) { (void)x; return 1; }
-static int w(uint32_t x) { given.w = x; return 1; }
-static int m(uint32_t x) { given.m = x; return 1; }
+static int kind(uint32_t x) { given.ruler.kind = x; return 1; }
+static int m(uint32_t x) { given.ruler.m = x; return 1; }
+static int w(uint32_t x) { given.ruler = kheyambo_bits(x, M); return on->named == bits; }
+static int lo(uint32_t x) { given.ruler = kheyambo_spread(M, x, HI); return on->named == spread; }
+static int hi(uint32_t x) { given.ruler = kheyambo_spread(M, LO, x); return on->named == spread; }
+static int ruler_on_by(uint32_t x) { rulers[(size_t)(on - rulers + x) % RULERS].named(); return 1; }
 static int start(uint32_t x) { given.start = x; return 1; }
-static int end(uint32_t x) { given.end = x; return 1; }
-static int start_after_end(uint32_t x) { given.start = x + 1, given.end = x; return 1; }
+static int start_before_first_by(uint32_t x) { given.start = on->first - x; return on->first >= x; }
+static int end_after_last_by(uint32_t x) { given.end = on->last + x; return 1; }
+static int backward_before_last_by(uint32_t x) { given.start = on->last - x + 1, given.end = on->last - x; return 1; }
 static int id_of_row(uint32_t x) { given.id = table[ROW * x]; return 1; }
 static int code(uint32_t x) { given.code = x; return 1; }
 static int level(uint32_t x) { given.level = x; return 1; }
@@ -150,8 +179,9 @@ static int table_words(uint32_t x) { given.table = x; return 1; }
 static int directory_words(uint32_t x) { given.directory = x; return 1; }
 static int originals_words(uint32_t x) { given.originals = x; return 1; }
 static int answers_words(uint32_t x) { given.answers = x; return 1; }
-static int row_off_ruler(uint32_t x) { table[ROW * x + 2] = LAST + 1; return 1; }
-static int row_backward(uint32_t x) { table[ROW * x + 1] = 1, table[ROW * x + 2] = 0; return 1; }
+static int row_after_last(uint32_t x) { table[ROW * x + 2] = on->last + 1; return 1; }
+static int row_before_first(uint32_t x) { table[ROW * x + 1] = on->first - 1; return on->first > 0; }
+static int row_backward(uint32_t x) { table[ROW * x + 1] = on->first + 1, table[ROW * x + 2] = on->first; return 1; }
 static int row_with_first_id(uint32_t x) { table[ROW * x] = table[0]; return 1; }
 static int directory_word(uint32_t x) { directory[x] += 1; return 1; }
 static int original_word(uint32_t x) { originals[x] = UINT32_MAX; return 1; }
@@ -165,13 +195,23 @@ static int last_replica_word(uint32_t x) {
     return 1;
 }
 
-/* The windows to which a trip in most partitions stands under code 0, 1, 2 .. 13. */
-static const uint32_t windows[][2] = {
-    {CELL, LAST - CELL}, {CELL, 9999}, {CELL, LAST}, {9999, LAST - CELL}, {0, LAST - CELL}, {0, CELL}, {LAST - CELL, LAST},
-    {0, 9999}, {9999, LAST}, {0, LAST}, {9999, 19999}, {0, CELL - 1}, {LAST - CELL + 1, LAST}, {0, LAST},
+/* The seconds of a ruler that a trip in most partitions tells apart: its own first and last, those beside them, two between them, the ruler's ends. */
+enum { FIRST, BEFORE, STARTS, WITHIN, LATER, ENDS, AFTER, LAST };
+
+static uint32_t second(int which) {
+    const uint32_t seconds[] = {
+        on->first, on->second_cell - 1, on->second_cell, on->first + 9999, on->first + 19999, on->last_but_one, on->last_but_one + 1, on->last
+    };
+    return seconds[which];
+}
+
+/* The windows to which such a trip stands under code 0, 1, 2 .. 13. */
+static const int windows[][2] = {
+    {STARTS, ENDS}, {STARTS, WITHIN}, {STARTS, LAST}, {WITHIN, ENDS}, {FIRST, ENDS}, {FIRST, STARTS}, {ENDS, LAST},
+    {FIRST, WITHIN}, {WITHIN, LAST}, {FIRST, LAST}, {WITHIN, LATER}, {FIRST, BEFORE}, {AFTER, LAST}, {FIRST, LAST},
 };
 
-static int question(uint32_t x) { given.code = x, given.start = windows[x][0], given.end = windows[x][1]; return 1; }
+static int question(uint32_t x) { given.code = x, given.start = second(windows[x][0]), given.end = second(windows[x][1]); return 1; }
 
 static int absent_id(uint32_t x) {
     for (uint32_t i = 0; i < ORIGINALS; i += ROW) {
@@ -244,11 +284,14 @@ static const struct row {
     {0, ASK, CHANGED(question, 12)}, {0, ASK, CHANGED(question, 13)},
     {0, RUN, CHANGED(subdivision, 1)}, {0, RUN, CHANGED(subdivision, 2)}, {0, RUN, CHANGED(subdivision, 3)},
     {1, EVERY, CHANGED(w, 0)}, {1, EVERY, CHANGED(w, 25)}, {1, EVERY, CHANGED(w, M - 1)}, {1, EVERY, CHANGED(m, 11)},
+    {1, EVERY, CHANGED(lo, HI)}, {1, EVERY, CHANGED(lo, UINT32_MAX)}, {1, EVERY, CHANGED(hi, 1 << 24)}, {1, EVERY, CHANGED(hi, UINT32_MAX)},
+    {1, EVERY, CHANGED(kind, 2)}, {1, EVERY, CHANGED(kind, UINT32_MAX)},
     {2, BUILD, CHANGED(table_words, ORIGINALS - 1)}, {2, BUILD, CHANGED(table_words, ORIGINALS + ROW)}, {2, ADD, CHANGED(added_to_all, 0)},
     {3, EVERY, CHANGED(directory_words, DIRECTORY - 1)}, {3, EVERY, CHANGED(directory_words, DIRECTORY + 1)},
-    {4, BUILD, CHANGED(row_off_ruler, 0)}, {4, BUILD, CHANGED(row_off_ruler, TRIPS - 1)},
-    {4, ADD | ASK, CHANGED(start, UINT32_MAX)}, {4, ADD | ASK, CHANGED(end, LAST + 1)},
-    {5, BUILD, CHANGED(row_backward, 0)}, {5, BUILD, CHANGED(row_backward, TRIPS - 1)}, {5, ADD | ASK, CHANGED(start_after_end, LAST - 1)},
+    {4, BUILD, CHANGED(row_after_last, 0)}, {4, BUILD, CHANGED(row_after_last, TRIPS - 1)},
+    {4, BUILD, CHANGED(row_before_first, 0)}, {4, BUILD, CHANGED(row_before_first, TRIPS - 1)},
+    {4, ADD | ASK, CHANGED(start, UINT32_MAX)}, {4, ADD | ASK, CHANGED(start_before_first_by, 1)}, {4, ADD | ASK, CHANGED(end_after_last_by, 1)},
+    {5, BUILD, CHANGED(row_backward, 0)}, {5, BUILD, CHANGED(row_backward, TRIPS - 1)}, {5, ADD | ASK, CHANGED(backward_before_last_by, 1)},
     {6, BUILD, CHANGED(row_with_first_id, 1)}, {6, BUILD, CHANGED(row_with_first_id, TRIPS - 1)},
     {6, ADD, CHANGED(id_of_row, 0)}, {6, ADD, CHANGED(id_of_row, TRIPS - 2)},
     {7, BUILD | ADD, CHANGED(originals_words, ORIGINALS - 1)}, {7, BUILD | ADD, CHANGED(replicas_short_by, 1)},
@@ -261,6 +304,7 @@ static const struct row {
     {8, ON_INDEX, CHANGED(tail_word, 0)}, {8, ON_INDEX, CHANGED(tail_word, 1)},
     {8, ON_INDEX, CHANGED(tail_word, 2)}, {8, ON_INDEX, CHANGED(tail_word, 3)},
     {8, ON_INDEX, CHANGED(originals_words, ORIGINALS - ROW - 1)}, {8, ON_INDEX, CHANGED(w, W - 1)},
+    {8, ON_INDEX, CHANGED(hi, HI + 3600)}, {8, ON_INDEX, CHANGED(ruler_on_by, 1)},
     {8, ON_INDEX, CHANGED(every_word, 1)}, {8, ON_INDEX, CHANGED(every_word, UINT32_MAX)},
     {9, ASK, CHANGED(code, 14)}, {9, ASK, CHANGED(code, UINT32_MAX)},
     {10, REMOVE, CHANGED(absent_id, 0)}, {10, REMOVE, CHANGED(absent_id, 1u << 31)},
@@ -313,19 +357,30 @@ static size_t used_by(void (*enter)(void)) {
     return STACK - untouched;
 }
 
+/* Of one function on one ruler. */
+static struct {
+    size_t calls, over, most;
+} found;
+
+static void complain(size_t f, const struct row *row, size_t t, size_t d) {
+    fprintf(stderr, "stack: %s on %s, trips %s, ids %s, %s: ", functions[f].name, on->name, times[t].name, ids[d].name, row->name);
+}
+
 static void measure(size_t f, const struct row *row, size_t t, size_t d) {
     int all = row->change == question && (row->x == KHEYAMBO_G_OVERLAPS || times[t].put == in_most_partitions);
     size_t used;
     running = functions[f].name, number = UINT32_MAX, count = 0;
     used = used_by(functions[f].enter);
-    functions[f].calls++;
-    if (functions[f].most + by_empty < used) functions[f].most = used - by_empty;
+    found.calls++;
+    if (found.most + by_empty < used) found.most = used - by_empty;
     if (spilt) {
-        if (functions[f].over++) return;
-        fprintf(stderr, "stack: %s, trips %s, ids %s, %s: needs more than %d bytes\n", functions[f].name, times[t].name, ids[d].name, row->name, STACK);
+        if (found.over++) return;
+        complain(f, row, t, d);
+        fprintf(stderr, "needs more than %d bytes\n", STACK);
     } else if (number != row->number || (all && count != TRIPS)) {
         wrong++;
-        fprintf(stderr, "stack: %s, trips %s, ids %s, %s: %u, must be %u", functions[f].name, times[t].name, ids[d].name, row->name, number, row->number);
+        complain(f, row, t, d);
+        fprintf(stderr, "%u, must be %u", number, row->number);
         fprintf(stderr, all ? "; %u ids, must be all\n" : "\n", count);
     }
 }
@@ -339,18 +394,26 @@ static void measure_all(size_t f, size_t t, size_t d) {
     }
 }
 
+static void measure_function(size_t f) {
+    memset(&found, 0, sizeof found);
+    for (size_t t = 0; t < TIMES; t++) {
+        for (size_t d = 0; d < IDS; d++) measure_all(f, t, d);
+    }
+    printf("%s | %s | %zu | ", functions[f].name, on->name, found.calls);
+    printf(found.over ? "more than %zu bytes\n" : "%zu bytes\n", found.over ? STACK - by_empty : found.most);
+}
+
 int main(void) {
     size_t over = 0;
     make_stack();
     by_empty = used_by(nothing);
-    printf("an empty call | 1 | %zu bytes\n", by_empty);
+    printf("an empty call | – | 1 | %zu bytes\n", by_empty);
     for (size_t f = 0; f < FUNCTIONS; f++) {
-        for (size_t t = 0; t < TIMES; t++) {
-            for (size_t d = 0; d < IDS; d++) measure_all(f, t, d);
+        for (size_t k = 0; k < RULERS; k++) {
+            on = rulers + k;
+            measure_function(f);
+            over += found.over;
         }
-        over += functions[f].over;
-        printf("%s | %zu | ", functions[f].name, functions[f].calls);
-        printf(functions[f].over ? "more than %zu bytes\n" : "%zu bytes\n", functions[f].over ? STACK - by_empty : functions[f].most);
     }
     if (over) fprintf(stderr, "stack: %zu calls need more than %d bytes\n", over, STACK);
     if (wrong) fprintf(stderr, "stack: %zu calls answered another number than they must\n", wrong);
