@@ -1,5 +1,5 @@
 -- Demand 3: "After each accepted addition or removal every word is what a build for those trips would write": for EVERY table that gives the words
--- before, the call leaves what build leaves for that table with the trip added or taken out.
+-- before, the call leaves what build leaves for that table with the trip added or taken out. All are over `Numbers`: for the ruler that the call names, of either kind.
 use mathlib.Core.Path.{_≡_, refl, _∙_}
 use mathlib.Core.List.{List, [], _∷_, _++_, List·Memᴰ as Mem}
 use Prim.Native.Nat.{ℕ, _≤_}

@@ -1,5 +1,5 @@
 -- Demand 2: "Exact." Each statement holds for EVERY table that gives the words, `IndexOf`; that the words of an accepted call have one is
--- proofs/Edits.antt.
+-- proofs/Edits.antt. All are over `Numbers`: for the ruler that the call names, of either kind.
 use mathlib.Core.Path.{_≡_, sym, _∙_}
 use mathlib.Core.Logic.{_↔_}
 use mathlib.Core.List.{List, map, List·Memᴰ as Mem}
