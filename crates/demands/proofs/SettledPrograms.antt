@@ -3,7 +3,7 @@ use mathlib.Core.Path.{_≡_, sym, ap, _∙_}
 use mathlib.Core.List.{List, []}
 use Prim.Native.Nat.{ℕ}
 use Rattle.layout.specs.Words.{Index}
-use Rattle.export.specs.declared.Named.{Named}
+use Rattle.export.specs.declared.NamedRuler.{NamedRuler}
 use Rattle.export.specs.Said.{bitsNamed, spreadNamed, numbersNamed}
 use Rattle.export.specs.Said.{Left, left, Heard, told, Counted, counted, buildSaid, checkSaid, addSaid, removeSaid, askSaid, censusSaid, runSaid}
 use Rattle.layout.specs.Calls.{index}
@@ -41,7 +41,7 @@ kheyambo-bits-settled w m = settled (bitsNamed w m)
 pub kheyambo-spread-settled : (m lo hi : ℕ) → One (spreadNamed m lo hi)
 kheyambo-spread-settled m lo hi = settled (spreadNamed m lo hi)
 
-module _ (r : Named) (x : Index) where
+module _ (r : NamedRuler) (x : Index) where
   pub kheyambo-build-settled : (table : List ℕ) → OneLeft (buildSaid (numbersNamed r) table x)
   kheyambo-build-settled table = one-left (buildSaid (numbersNamed r) table x)
 

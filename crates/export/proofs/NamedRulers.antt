@@ -7,7 +7,7 @@ use Rattle.ruler.specs.declared.Numbers.{Numbers}
 use Rattle.ruler.specs.declared.Numbers.the-variants.{Bits, Spread}
 use Rattle.ruler.specs.Ruler.{inBounds, scaleOf}
 use Rattle.ruler.proofs.Fair.{scale-good}
-use Rattle.export.specs.declared.Named.{Named}
+use Rattle.export.specs.declared.NamedRuler.{NamedRuler}
 use Rattle.export.specs.Said.{bitsKind, spreadKind, noWidth, bitsNamed, spreadNamed, numbersNamed}
 
 pub bits-named : (w m : ℕ) → numbersNamed (bitsNamed w m) ≡ Bits w m
@@ -22,7 +22,7 @@ no-such-width : (m : ℕ) → inBounds (Bits noWidth m) ≡ false
 unfolding inBounds
 no-such-width m = refl
 
-module _ (r : Named) (no-bits : r .kind ≡ bitsKind → ⊥) (no-spread : r .kind ≡ spreadKind → ⊥) where
+module _ (r : NamedRuler) (no-bits : r .kind ≡ bitsKind → ⊥) (no-spread : r .kind ≡ spreadKind → ⊥) where
   pub other-kinds : numbersNamed r ≡ Bits noWidth (r .m)
   unfolding numbersNamed
   other-kinds = rw (ne-eqb (r .kind) bitsKind no-bits, ne-eqb (r .kind) spreadKind no-spread) refl

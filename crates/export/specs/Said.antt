@@ -12,7 +12,7 @@ use Rattle.layout.specs.declared.Outcome.{Outcome}
 use Rattle.layout.specs.Words.{Index}
 use Rattle.layout.specs.Refusals.{numberOf, detailOf, checkOutcome, runOutcome}
 use Rattle.layout.specs.Calls.{After, Asked, ifAccepted, buildOf, addOf, removeOf, askOf, censusOf, runOf, runFromOf}
-use Rattle.export.specs.declared.Named.{Named}
+use Rattle.export.specs.declared.NamedRuler.{NamedRuler}
 use Rattle.export.specs.declared.Said.{Said}
 use Rattle.export.specs.declared.Told.{Told}
 use Rattle.export.specs.declared.Shown.{Shown}
@@ -32,15 +32,15 @@ unused = 0
 abbrev pub noWidth : ℕ
 noWidth = 0
 
-abbrev pub bitsNamed : (w m : ℕ) → Named
+abbrev pub bitsNamed : (w m : ℕ) → NamedRuler
 bitsNamed w m = record { kind = bitsKind; m = m; first = w; second = unused }
 
-abbrev pub spreadNamed : (m lo hi : ℕ) → Named
+abbrev pub spreadNamed : (m lo hi : ℕ) → NamedRuler
 spreadNamed m lo hi = record { kind = spreadKind; m = m; first = lo; second = hi }
 
 -- The numbers that such a value names, by its kind. C code can write any kind: another one names a width that no ruler has, so that every call
 -- refuses it with 1, as it does all numbers out of bounds (the law `other-kinds-refused`).
-unfoldable pub numbersNamed : Named → Numbers
+unfoldable pub numbersNamed : NamedRuler → Numbers
 numbersNamed r =
     cond (eqb (r .kind) bitsKind) (Bits (r .first) (r .m))
     (cond (eqb (r .kind) spreadKind) (Spread (r .m) (r .first) (r .second)) (Bits noWidth (r .m)))

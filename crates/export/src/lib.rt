@@ -15,7 +15,7 @@ ghost use Rattle.export.specs.Said.{saidOf, left, told, buildSaid, addSa
 // A ruler as C holds it: its kind, m, and the other numbers of that kind: w, or lo and hi. Four words, so that a call takes them in two
 // registers. C may write anything into them: what they name is judged by each call.
 #[repr(C)]
-pub struct Named {
+pub struct NamedRuler {
     pub kind: u32,
     pub m: u32,
     pub first: u32,
@@ -71,7 +71,7 @@ fn arena_of(outcome: Outcome, subdivision: u32) -> u32
 }
 
 // The numbers that a ruler of C names. Another kind names a width that no ruler has, so every call refuses it with 1.
-fn numbers_named(ruler: Named) -> Numbers
+fn numbers_named(ruler: NamedRuler) -> Numbers
     ensures { λ r. ⌜ r ≡ numbersNamed ruler ⌝ }
 {
     let m = ruler.m;
@@ -100,10 +100,10 @@ fn in_numbers(outcome: Outcome) -> Said
 
 // The ruler of the times 0 to 2^w - 1.
 #[no_mangle]
-pub extern "C" fn kheyambo_bits(w: u32, m: u32) -> Named
+pub extern "C" fn kheyambo_bits(w: u32, m: u32) -> NamedRuler
     ensures { λ r. ⌜ r ≡ bitsNamed w m ⌝ }
 {
-    Named {
+    NamedRuler {
         kind: BITS,
         m,
         first: w,
@@ -113,10 +113,10 @@ pub extern "C" fn kheyambo_bits(w: u32, m: u32) -> Named
 
 // The ruler that is spread over the times lo to hi.
 #[no_mangle]
-pub extern "C" fn kheyambo_spread(m: u32, lo: u32, hi: u32) -> Named
+pub extern "C" fn kheyambo_spread(m: u32, lo: u32, hi: u32) -> NamedRuler
     ensures { λ r. ⌜ r ≡ spreadNamed m lo hi ⌝ }
 {
-    Named {
+    NamedRuler {
         kind: SPREAD,
         m,
         first: lo,
@@ -126,7 +126,7 @@ pub extern "C" fn kheyambo_spread(m: u32, lo: u32, hi: u32) -> Named
 
 #[no_mangle]
 pub extern "C" fn kheyambo_build(
-    ruler: Named,
+    ruler: NamedRuler,
     table: &[u32],
     directory: &mut [u32],
     originals: &mut [u32],
@@ -141,7 +141,7 @@ pub extern "C" fn kheyambo_build(
 
 #[no_mangle]
 pub extern "C" fn kheyambo_check(
-    ruler: Named,
+    ruler: NamedRuler,
     directory: &[u32],
     originals: &[u32],
     replicas: &[u32],
@@ -153,7 +153,7 @@ pub extern "C" fn kheyambo_check(
 
 #[no_mangle]
 pub extern "C" fn kheyambo_add(
-    ruler: Named,
+    ruler: NamedRuler,
     id: u32,
     start: u32,
     end: u32,
@@ -171,7 +171,7 @@ pub extern "C" fn kheyambo_add(
 
 #[no_mangle]
 pub extern "C" fn kheyambo_remove(
-    ruler: Named,
+    ruler: NamedRuler,
     id: u32,
     directory: &mut [u32],
     originals: &mut [u32],
@@ -186,7 +186,7 @@ pub extern "C" fn kheyambo_remove(
 
 #[no_mangle]
 pub extern "C" fn kheyambo_ask<'a>(
-    ruler: Named,
+    ruler: NamedRuler,
     code: u32,
     start: u32,
     end: u32,
@@ -219,7 +219,7 @@ pub extern "C" fn kheyambo_ask<'a>(
 // The counts of the census, row after row, into a lent array.
 #[no_mangle]
 pub extern "C" fn kheyambo_census(
-    ruler: Named,
+    ruler: NamedRuler,
     directory: &[u32],
     originals: &[u32],
     replicas: &[u32],
@@ -238,7 +238,7 @@ pub extern "C" fn kheyambo_census(
 // A run: where it stands in the arenas, and nothing copied.
 #[no_mangle]
 pub extern "C" fn kheyambo_run<'a>(
-    ruler: Named,
+    ruler: NamedRuler,
     level: u32,
     partition: u32,
     subdivision: u32,
