@@ -223,8 +223,8 @@ impl Numbers {
     }
 }
 
-// A ruler whose numbers were in bounds when it was made. Which kind it is was asked then, and never again: it keeps its first and last time, and
-// what a second counts for, so that a cell takes one product and no division.
+// A ruler whose numbers were in bounds when it was made. It keeps its first and last time, and what a second counts for: so no time and no cell asks
+// which kind it is, and a cell takes one product and no division.
 pub struct Ruler {
     numbers: Numbers,
     first: u32,
