@@ -74,7 +74,7 @@ module _ (ruler : Ruler) (ok : Made ruler) (x : Index) (is : isIndex (scale rule
   agrees : (t : Trip) → Mem t ts → test t ≡ related (q .relationship) w t
   agrees t m =
       let f = table .rowsOk .fits t m in
-      inside-related (q .relationship) w t (near (t .start) (f .starts)) (near (t .end) (f .ends))
+      inside-related (q .relationship) w t (near (t .start) (f .times .starts)) (near (t .end) (f .times .ends))
 
   order : s .cell (w .start) ≤ s .cell (w .end)
   order = falls .never-falls (w .start) (w .end) (on .ordered)
@@ -91,7 +91,7 @@ module _ (ruler : Ruler) (ok : Made ruler) (x : Index) (is : isIndex (scale rule
   suits t m h =
       let f = table .rowsOk .fits t m in
       rw (plan-for s (q .relationship) w)
-      (suits-plan s falls w t (falls .one-of (t .start) (f .starts)) (falls .never-falls (t .start) (t .end) (f .ordered)) order (q .relationship)
+      (suits-plan s falls w t (falls .one-of (t .start) (f .times .starts)) (falls .never-falls (t .start) (t .end) (f .times .ordered)) order (q .relationship)
       (rw (agrees t m) at h))
 
   -- ---- what the walk over the words lists

@@ -1,7 +1,7 @@
 // A question as it is put, judged: its code names a relationship, and its window is on the ruler.
 use layout::Outcome;
 use layout::Refusal;
-use layout::time_outcome;
+use layout::window_outcome;
 use ruler::Ruler;
 use trip::Asking;
 use trip::Named;
@@ -25,8 +25,8 @@ pub fn judge(ruler: Ruler, asking: Asking) -> Judgement
         return Judgement::Unfit(Refusal::NoRelationship);
     };
     let window = asking.window;
-    let times = time_outcome(ruler, window.start, window.end, 0);
-    if let Outcome::Refused { refusal, detail: _ } = times {
+    let when = window_outcome(ruler, window);
+    if let Outcome::Refused { refusal, detail: _ } = when {
         return Judgement::Unfit(refusal);
     }
     Judgement::Fit(Question {

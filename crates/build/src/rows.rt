@@ -1,10 +1,8 @@
 // The tests of a table's rows in their order, and the room that its entries need.
 use layout::ENTRY_WORDS;
 use layout::Outcome;
-use layout::Refusal;
 use layout::is_accepted;
-use layout::refused;
-use layout::time_outcome;
+use layout::row_outcome;
 use ruler::Ruler;
 use store::counting::partitions_holding;
 use store::entry::trip_at;
@@ -51,25 +49,16 @@ fn id_taken(table: &[u32], i: usize, id: u32, differ: bool) -> bool
     id_before(table, i, id)
 }
 
-// The tests of row i: 4, 5, 6.
-fn row_outcome(ruler: Ruler, table: &[u32], i: usize, differ: bool) -> Outcome
+// The tests of row i.
+fn outcome_at(ruler: Ruler, table: &[u32], i: usize, differ: bool) -> Outcome
     requires { ⌜ Made ruler ⌝ }
     requires { ⌜ (i < length (now table) / entryWords) × (length (now table) / entryWords ≤ mostTrips) ⌝ }
     requires { ⌜ differ ≡ idsDiffer (rows (now table)) ⌝ }
     ensures { λ r. ⌜ r ≡ rowTests (scale ruler) (rowsBack (now (table .entry)) i) (tripAt (now (table .entry)) i) i Outcome.Accepted ⌝ }
 {
     let t = trip_at(table, i);
-    let row = i as u32;
-    let start = t.start;
-    let end = t.end;
-    let times = time_outcome(ruler, start, end, row);
-    if !is_accepted(times) {
-        return times;
-    }
-    if id_taken(table, i, t.id, differ) {
-        return refused(Refusal::IdTaken, row);
-    }
-    Outcome::Accepted
+    let taken = id_taken(table, i, t.id, differ);
+    row_outcome(ruler, t, taken, i as u32)
 }
 
 // The first bad row decides.
@@ -82,7 +71,7 @@ fn first_bad_row(ruler: Ruler, table: &[u32], differ: bool) -> Outcome
     let n = table.len() / ENTRY_WORDS;
     let mut i: usize = 0;
     while i < n {
-        let found = row_outcome(ruler, table, i, differ);
+        let found = outcome_at(ruler, table, i, differ);
         if !is_accepted(found) {
             return found;
         }

@@ -21,7 +21,7 @@ use Rattle.layout.specs.declared.Refusal.the-variants.{RulerOutOfBounds, TableS
 use Rattle.layout.specs.declared.Outcome.{Outcome}
 use Rattle.layout.specs.declared.Outcome.the-variants.{Accepted, Refused}
 use Rattle.layout.specs.Words.{directoryLength, partitionsHolding, Index}
-use Rattle.layout.specs.Refusals.{refusalNumber, numberOf, refuse, timeTests, rowTests, windowTests, questionTests, roomTest, IndexOfSome, isIndex, indexTests, addOutcome, removeOutcome, askOutcome, runOutcome, checkOutcome}
+use Rattle.layout.specs.Refusals.{refusalNumber, numberOf, refuse, timeTests, rowTestsBy, rowTests, windowTests, questionTests, roomTest, IndexOfSome, isIndex, indexTests, addOutcome, removeOutcome, askOutcome, runOutcome, checkOutcome}
 use Rattle.layout.specs.Calls.{ifAccepted, leaving, buildOf, addOf, removeOf, askOf, censusOf, noCensus, runOf}
 use Rattle.layout.proofs.MostPartitions.{deepest-most}
 use Rattle.layout.proofs.Chains.{refused-not}
@@ -117,7 +117,7 @@ module _ (n : Numbers) (x : Index) where
         ((λ e. eight-exactly .0 (h .0 e)), λ none. h .1 (eight-exactly .1 none))
 
     pub add-eight : (t : Trip) → (addOutcome (scaleOf n) x t ≡ Refused NotAnIndex 0) ↔ (IndexOfSome (scaleOf n) x → ⊥)
-    unfolding addOutcome rowTests timeTests
+    unfolding addOutcome rowTests rowTestsBy timeTests
     add-eight t = of-call _ (other-link _ _ 0 _ (λ e. omega arith)
         (other-link _ _ 0 _ (λ e. omega arith) (other-link _ _ 0 _ (λ e. omega arith) (other-link _ _ 0 _ (λ e. omega arith)
         (other-link _ _ 0 _ (λ e. omega arith) (λ e. omega arith))))))

@@ -71,7 +71,7 @@ module _ (n : Numbers) (x : Index) (table : List ℕ) (g : IndexOf (scaleOf n) t
   forward code accepted = asked-on-ruler (scaleOf n) x (askingOf code start end) (length (lists code)) accepted .ordered
 
   runs : (t : Trip) → Mem t (rows table) → t .start .0 ≤ t .end .0
-  runs t m = given-table (scaleOf n) table x g .rowsOk .fits t m .ordered
+  runs t m = given-table (scaleOf n) table x g .rowsOk .fits t m .times .ordered
 
   -- "the thirteen counts for a window add up to the table's trips"
   pub thirteen-counts : ((code : ℕ) → code < thirteen → told code .outcome ≡ Accepted) → sumTo (λ code. told code .count) thirteen ≡ length (rows table)

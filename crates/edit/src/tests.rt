@@ -5,7 +5,7 @@ use layout::Outcome;
 use layout::Refusal;
 use layout::is_accepted;
 use layout::refused;
-use layout::time_outcome;
+use layout::row_outcome;
 use ruler::Ruler;
 use store::half::entries_of;
 use store::half::trips_of;
@@ -59,24 +59,16 @@ fn lacks_room(ruler: Ruler, half: Half, used: usize, words: usize, t: Trip) -> b
     words < ENTRY_WORDS * (used + entries_of_trip(ruler, half, t))
 }
 
-// The tests 4, 5 and 6 of a trip beside those that are there.
+// The tests of a trip beside those that are there.
 fn trip_outcome(ruler: Ruler, there: &[u32], t: Trip) -> Outcome
     requires { ⌜ Made ruler ⌝ }
     ensures { λ r. ⌜ r ≡ rowTests (scale ruler) (rows (now (there .entry))) t 0 Outcome.Accepted ⌝ }
 {
-    let start = t.start;
-    let end = t.end;
-    let times = time_outcome(ruler, start, end, 0);
-    if !is_accepted(times) {
-        return times;
-    }
-    if find_id(there, t.id) < there.len() / ENTRY_WORDS {
-        return refused(Refusal::IdTaken, 0);
-    }
-    Outcome::Accepted
+    let taken = find_id(there, t.id) < there.len() / ENTRY_WORDS;
+    row_outcome(ruler, t, taken, 0)
 }
 
-// The outcome of an addition to words that are an index: 2, then 4, 5 and 6 of the trip, then 7.
+// The outcome of an addition to words that are an index: 2, then those of the trip, then 7.
 pub fn add_outcome(
     ruler: Ruler,
     directory: &[u32],

@@ -5,12 +5,12 @@ use mathlib.Core.List.{List, [], _∷_, List·Memᴰ as Mem, List·Memᴰ·head 
 use Prim.Native.Nat.{ℕ, _*_, _/_, _%_, _≤_, _<_}
 use native.Mathlib.Omega.{arith}
 use lib.Arith.{le→nltb}
-use lib.Dec.{T, ltb, eqb, eqb→eq, eqb-refl, ltb→lt, nltb→le, T-not, not-T}
+use lib.Dec.{T, ltb, eqb, leb→le, le→leb, eqb→eq, eqb-refl, ltb→lt, nltb→le, T-not, not-T}
 use lib.ListN.{length}
 use borrow.Author.Tests.{lt-ltb, le-ltb}
-use Rattle.lists.proofs.Tests.{of-and, to-and, of-nor, to-nor, of-not-not, to-not-not}
+use Rattle.lists.proofs.Tests.{agree, of-and, to-and, of-three, to-three, of-nor, to-nor, of-not-not, to-not-not}
 use Rattle.ruler.specs.declared.Time.{Time}
-use Rattle.ruler.specs.Ruler.{Scale, mostTrips}
+use Rattle.ruler.specs.Ruler.{Scale, mostTrips, noLater, spans}
 use Rattle.trip.specs.declared.Trip.{Trip}
 use Rattle.trip.specs.declared.Window.{Window}
 use Rattle.layout.specs.declared.Half.the-variants.{Originals, Replicas}
@@ -19,7 +19,7 @@ use Rattle.layout.specs.declared.Refusal.the-variants.{OffRuler, Backwar
 use Rattle.layout.specs.declared.Outcome.{Outcome}
 use Rattle.layout.specs.declared.Outcome.the-variants.{Accepted, Refused}
 use Rattle.layout.specs.Words.{entryWords, directoryLength, entries, Lengths}
-use Rattle.layout.specs.Refusals.{refuse, isAccepted, outOfBounds, badSize, badDirectory, offRuler, backward, hasId, noRoom, exceeds, timeTests, windowTests, roomTest, onRuler, OnRuler}
+use Rattle.layout.specs.Refusals.{refuse, isAccepted, outOfBounds, badSize, badDirectory, offRuler, backward, hasId, noRoom, exceeds, timeTests, windowTests, roomTest, onRuler, OnRuler, fits, Fits}
 
 -- ---- one link
 
@@ -119,6 +119,29 @@ of-onRuler s a b t = times-on s a b 0 Accepted (of-accepted _ t)
 pub to-onRuler : (s : Scale) (a b : Time) → OnRuler s a b → T (onRuler s a b)
 unfolding onRuler isAccepted
 to-onRuler s a b f = rw (times-pass s a b 0 Accepted f) tt
+
+pub by-spans : (s : Scale) (a b : Time) → spans s a b ≡ onRuler s a b
+by-spans s a b =
+    agree (spans s a b) (onRuler s a b)
+    (λ t.
+    let f = of-three (s .has a) (s .has b) (noLater a b) t in
+    to-onRuler s a b (record { starts = f .0; ends = f .1; ordered = leb→le (a .0) (b .0) (f .2) }))
+    (λ t.
+    let f = of-onRuler s a b t in
+    to-three (s .has a) (s .has b) (noLater a b) (f .starts, f .ends, le→leb (a .0) (b .0) (f .ordered)))
+
+-- a trip by itself
+pub of-fits : (s : Scale) (t : Trip) → T (fits s t) → Fits s t
+unfolding fits
+of-fits s t h = record { times = of-onRuler s (t .start) (t .end) h }
+
+pub fits-said : (s : Scale) (t : Trip) {a : Bool} → a ≡ spans s (t .start) (t .end) → a ≡ fits s t
+unfolding fits
+fits-said s t e = e ∙ by-spans s (t .start) (t .end)
+
+pub to-fits : (s : Scale) (t : Trip) → Fits s t → T (fits s t)
+unfolding fits
+to-fits s t f = to-onRuler s (t .start) (t .end) (f .times)
 
 -- the chain of both, by what the code found of each time
 pub off-said : (s : Scale) (start end : Time) {a b : Bool} (v : Bool) → a ≡ s .has start → b ≡ s .has end → not (a && b) ≡ v

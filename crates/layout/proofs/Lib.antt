@@ -20,7 +20,7 @@ pub mod Reported
 -- refusals, tables and indexes
 pub mod Chains
 pub mod Links
-pub mod OneRow
+pub mod TimesFirst
 pub mod Tables
 pub mod Indexes
 pub mod LocalConditions

@@ -10,7 +10,7 @@ use Rattle.layout.specs.declared.Refusal.{Refusal}
 use Rattle.layout.specs.declared.Outcome.{Outcome}
 use Rattle.layout.specs.declared.Outcome.the-variants.{Accepted, Refused}
 use Rattle.layout.specs.Words.{Index}
-use Rattle.layout.specs.Refusals.{isAccepted, refuse, timeTests, rowTests, firstBadRow, indexTests, checkOutcome}
+use Rattle.layout.specs.Refusals.{isAccepted, refuse, timeTests, rowTestsBy, rowTests, firstBadRow, indexTests, checkOutcome}
 use Rattle.layout.specs.Calls.{ifAccepted, after, leaving}
 
 -- the first outcome where it is a refusal, and else the rest
@@ -64,7 +64,7 @@ time-then s start end k rest = link _ _ k _ _ rest (link _ _ k rest Accepted res
 
 pub row-then : (s : Scale) (there : List Trip) (t : Trip) (k : ℕ) (rest : Outcome)
     → rowTests s there t k rest ≡ andThen (rowTests s there t k Accepted) rest
-unfolding rowTests timeTests ifAccepted
+unfolding rowTests rowTestsBy timeTests ifAccepted
 row-then s there t k rest = link _ _ k _ _ rest (link _ _ k _ _ rest (link _ _ k rest Accepted rest refl))
 
 -- 1, 3, 8: the check of the index, then the rest of a call's chain

@@ -164,16 +164,16 @@ once m a b x bound p q =
 
 module _ (s : Scale) (fair : Fair s) (t : Trip) (fits : Fits s t) where
   cells-ordered : s .cell (t .start) ≤ s .cell (t .end)
-  cells-ordered = fair .never-falls (t .start) (t .end) (fits .ordered)
+  cells-ordered = fair .never-falls (t .start) (t .end) (fits .times .ordered)
 
   pub one-original : Once (s .m) (λ L i. holdsTrip s L i t && isOriginal s L i t)
   unfolding holdsTrip isOriginal
   one-original =
       let h = cells-ordered in
-      once (s .m) (s .cell (t .start)) (s .cell (t .end)) (s .cell (t .start)) (fair .one-of (t .start) (fits .starts)) (omega arith) h
+      once (s .m) (s .cell (t .start)) (s .cell (t .end)) (s .cell (t .start)) (fair .one-of (t .start) (fits .times .starts)) (omega arith) h
 
   pub one-in : Once (s .m) (λ L i. holdsTrip s L i t && isIn s L i t)
   unfolding holdsTrip isIn
   one-in =
       let h = cells-ordered in
-      once (s .m) (s .cell (t .start)) (s .cell (t .end)) (s .cell (t .end)) (fair .one-of (t .end) (fits .ends)) h (omega arith)
+      once (s .m) (s .cell (t .start)) (s .cell (t .end)) (s .cell (t .end)) (fair .one-of (t .end) (fits .times .ends)) h (omega arith)

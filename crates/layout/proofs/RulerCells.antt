@@ -21,7 +21,7 @@ module _ (r : Ruler) (made : Made r) where
   deep-ruler = scale-m (r .numbers) (to-T (made-good r made))
 
   pub first-cell : (t : Trip) → Fits (scale r) t → scale r .cell (t .start) < 2 ^ scale r .m
-  first-cell t f = fair-ruler .one-of (t .start) (f .starts)
+  first-cell t f = fair-ruler .one-of (t .start) (f .times .starts)
 
   pub last-cell : (t : Trip) → Fits (scale r) t → scale r .cell (t .end) < 2 ^ scale r .m
-  last-cell t f = fair-ruler .one-of (t .end) (f .ends)
+  last-cell t f = fair-ruler .one-of (t .end) (f .times .ends)

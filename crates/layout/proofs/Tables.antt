@@ -10,7 +10,7 @@ use Rattle.trip.specs.declared.Trip.{Trip}
 use Rattle.layout.specs.declared.Outcome.{Outcome}
 use Rattle.layout.specs.declared.Outcome.the-variants.{Accepted}
 use Rattle.layout.specs.Words.{entryWords, words, rows, directoryLength, Lengths}
-use Rattle.layout.specs.Refusals.{rowTests, firstBadRow, buildOutcome, Fits}
+use Rattle.layout.specs.Refusals.{rowTestsBy, rowTests, firstBadRow, buildOutcome, Fits}
 use Rattle.layout.proofs.RowOrder.{OtherId, Distinct}
 use Rattle.layout.proofs.Rows.{rows-words, words-length, whole, whole-rest, length-rows}
 use Rattle.layout.proofs.Chains.{Sized, Room, refuse-no, refuse-pass, of-outOfBounds, to-outOfBounds, of-badSize, to-badSize, of-badDirectory, to-badDirectory, times-pass, times-on, of-hasId, to-hasId, of-noRoom, to-noRoom}
@@ -24,16 +24,16 @@ pub record RowOk (s : Scale) (beside : List Trip) (t : Trip) : Type 0 where
 
 pub of-rowTests : (s : Scale) (beside : List Trip) (t : Trip) (k : ℕ) (rest : Outcome) → rowTests s beside t k rest ≡ Accepted → RowOk s beside t
     × (rest ≡ Accepted)
-unfolding rowTests
+unfolding rowTests rowTestsBy
 of-rowTests s beside t k rest e =
-    let fits = times-on s (t .start) (t .end) k _ e in
-    let c = refuse-no _ _ k _ (sym (times-pass s (t .start) (t .end) k _ fits) ∙ e) in
-    (record { fits = fits; fresh = of-hasId (t .id) beside (c .0) }, c .1)
+    let on = times-on s (t .start) (t .end) k _ e in
+    let c = refuse-no _ _ k _ (sym (times-pass s (t .start) (t .end) k _ on) ∙ e) in
+    (record { fits = record { times = on }; fresh = of-hasId (t .id) beside (c .0) }, c .1)
 
 pub to-rowTests : (s : Scale) (beside : List Trip) (t : Trip) (k : ℕ) (rest : Outcome) → RowOk s beside t → rowTests s beside t k rest ≡ rest
-unfolding rowTests
+unfolding rowTests rowTestsBy
 to-rowTests s beside t k rest w =
-    times-pass s (t .start) (t .end) k _ (w .fits)
+    times-pass s (t .start) (t .end) k _ (w .fits .times)
     ∙ refuse-pass _ _ k _ (to-hasId (t .id) beside (w .fresh))
 
 -- ---- all rows

@@ -118,17 +118,21 @@ pub record OnRuler (s : Scale) (start end : Time) : Type 0 where
   pub ends : T (s .has end)
   pub ordered : start .0 ≤ end .0
 
-abbrev pub fits : Scale → Trip → Bool
+-- a trip that passes the tests which ask for nothing but the trip, 4 and 5: the test, and what is known where it passes
+unfoldable pub fits : Scale → Trip → Bool
 fits s t = onRuler s (t .start) (t .end)
 
-abbrev pub Fits : Scale → Trip → Type 0
-Fits s t = OnRuler s (t .start) (t .end)
+pub record Fits (s : Scale) (t : Trip) : Type 0 where
+  pub times : OnRuler s (t .start) (t .end)
 
--- "within it 4, 5, 6": one row, beside the trips that are there
-unfoldable pub rowTests : Scale → (there : List Trip) → Trip → (detail : ℕ) → Outcome → Outcome
-rowTests s there t d rest =
+-- "within it 4, 5, 6": one row, by whether its id is taken; and beside the trips that are there
+unfoldable pub rowTestsBy : Scale → (taken : Bool) → Trip → (detail : ℕ) → Outcome → Outcome
+rowTestsBy s taken t d rest =
     timeTests s (t .start) (t .end) d
-    (refuse (hasId (t .id) there) IdTaken d rest)
+    (refuse taken IdTaken d rest)
+
+unfoldable pub rowTests : Scale → (there : List Trip) → Trip → (detail : ℕ) → Outcome → Outcome
+rowTests s there t d rest = rowTestsBy s (hasId (t .id) there) t d rest
 
 -- "then the first bad row decides, within it 4, 5, 6, detail the row from 0": the rows from row k on, after the earlier ones
 unfoldable pub firstBadRow : Scale → (k : ℕ) → (earlier ts : List Trip) → Outcome → Outcome

@@ -3,12 +3,14 @@ pub mod directory;
 
 use ruler::Ruler;
 use ruler::Time;
+use trip::Trip;
+use trip::Window;
 ghost use mathlib.Core.Path.{_≡_};
 ghost use mathlib.Core.Bool.{true};
 ghost use Rattle.ruler.specs.Ruler.{Made, scale};
 ghost use Rattle.layout.specs.Stored.{subdivisionOf};
 ghost use Rattle.layout.specs.Words.{entryWords};
-ghost use Rattle.layout.specs.Refusals.{refusalNumber, numberOf, detailOf, isAccepted, timeTests};
+ghost use Rattle.layout.specs.Refusals.{refusalNumber, numberOf, detailOf, isAccepted, timeTests, rowTestsBy, windowTests};
 
 // A directory half with its arena.
 pub enum Half {
@@ -146,4 +148,27 @@ pub fn time_outcome(ruler: Ruler, start: Time, end: Time, detail: u32) -> Outcom
         return refused(Refusal::Backward, detail);
     }
     Outcome::Accepted
+}
+
+// The tests 4, 5 and 6 of a trip, by whether its id is taken.
+pub fn row_outcome(ruler: Ruler, t: Trip, taken: bool, detail: u32) -> Outcome
+    requires { ⌜ Made ruler ⌝ }
+    ensures { λ r. ⌜ r ≡ rowTestsBy (scale ruler) taken t detail Outcome.Accepted ⌝ }
+{
+    let times = time_outcome(ruler, t.start, t.end, detail);
+    if !is_accepted(times) {
+        return times;
+    }
+    if taken {
+        return refused(Refusal::IdTaken, detail);
+    }
+    Outcome::Accepted
+}
+
+// The tests 4 and 5 of a window.
+pub fn window_outcome(ruler: Ruler, window: Window) -> Outcome
+    requires { ⌜ Made ruler ⌝ }
+    ensures { λ r. ⌜ r ≡ windowTests (scale ruler) window Outcome.Accepted ⌝ }
+{
+    time_outcome(ruler, window.start, window.end, 0)
 }

@@ -112,9 +112,9 @@ module _
   unfolding reportedOf
   met-once t w =
       let f = fits t (w .row) in
-      let ab = fair .never-falls (t .start) (t .end) (f .ordered) in
+      let ab = fair .never-falls (t .start) (t .end) (f .times .ordered) in
       let c = shares (p .kind) (p .low .1) (p .high .1) (A t) (B t) ab (suits t (w .row) (w .passes)) in
-      shared-once (s .m) (A t) (B t) (p .low .1) (p .high .1) ab ordered (c .0) (c .1) (fair .one-of (t .end) (f .ends))
+      shared-once (s .m) (A t) (B t) (p .low .1) (p .high .1) ab ordered (c .0) (c .1) (fair .one-of (t .end) (f .times .ends))
 
   -- the entries of a slot looked at that pass the test
   found : Half → (L q : ℕ) → List Trip

@@ -145,7 +145,7 @@ module _ (s : Scale) (fair : Fair s) (t : Trip) (f : Fits s t) where
       let m = s .m in
       let a = s .cell (t .start) in
       let b = s .cell (t .end) in
-      let ordered = fair .never-falls (t .start) (t .end) (f .ordered) in
+      let ordered = fair .never-falls (t .start) (t .end) (f .times .ordered) in
       home-held m a b m (omega arith) (rw up-bottom (to-within m m a a b (rw sub-self (omega arith)) (rw sub-self (omega arith))))
 
   -- the home level is one of the ruler's, and the trip's first cell has a place there
@@ -153,7 +153,7 @@ module _ (s : Scale) (fair : Fair s) (t : Trip) (f : Fits s t) where
   home-deep = at-home .0
 
   pub home-place : (L : ℕ) → L ≤ s .m → cellUp (s .m) L (s .cell (t .start)) < 2 ^ L
-  home-place L h = up-lt (s .m) L (s .cell (t .start)) h (fair .one-of (t .start) (f .starts))
+  home-place L h = up-lt (s .m) L (s .cell (t .start)) h (fair .one-of (t .start) (f .times .starts))
 
   -- it is one of the slots
   pub home-lt : home s t < 2 * partitions (s .m)
@@ -181,7 +181,7 @@ module _ (s : Scale) (fair : Fair s) (t : Trip) (f : Fits s t) where
 
   -- and it alone is visited among the slots of originals
   inside : s .cell (t .end) < 2 ^ s .m
-  inside = fair .one-of (t .end) (f .ends)
+  inside = fair .one-of (t .end) (f .times .ends)
 
   visited-home : (c : ℕ) → Mem c (slotsOfTrip s Originals t) → c ≡ home s t
   visited-home c m =

@@ -31,7 +31,7 @@ use Rattle.layout.proofs.Left.{removed-left, remove-accepted}
 own-entries : (s : Scale) → Fair s → (t : Trip) → Fits s t → (h : Half) (ts : List Trip)
     → length (entries s h (t ∷ ts)) + length (entries s h []) ≡ length (entries s h ts) + length (entries s h (t ∷ []))
 own-entries s fair t f h ts =
-    let inside = fair .one-of (t .end) (f .ends) in
+    let inside = fair .one-of (t .end) (f .times .ends) in
     omega (arith, entries-added s t inside h ts, entries-added s t inside h [])
 
 -- a table is one of its trips and the rest

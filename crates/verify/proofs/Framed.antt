@@ -9,9 +9,8 @@ use native.Mathlib.Omega.{arith}
 use lib.Dec.{T, leb, eqb, leb→le, le→leb}
 use lib.Pow.{pow-pos}
 use borrow.Author.Tests.{leb-false, lt-leb, eqb-true, eqb-false, eq-eqb, ne-eqb}
-use Rattle.lists.proofs.Tests.{of-and, to-and, of-three, to-three, of-nor, of-not-T, to-T}
-use Rattle.ruler.specs.declared.Time.{Time}
-use Rattle.ruler.specs.Ruler.{Scale, noLater, spans, cellOf, cellUp}
+use Rattle.lists.proofs.Tests.{of-and, to-and, of-nor, of-not-T, to-T}
+use Rattle.ruler.specs.Ruler.{Scale, cellOf, cellUp}
 use Rattle.ruler.proofs.CellLevels.{all-cells, up-from, up-to, up-at}
 use Rattle.ruler.proofs.Fair.{Fair}
 use Rattle.trip.specs.declared.Trip.{Trip}
@@ -19,25 +18,15 @@ use Rattle.layout.specs.declared.Half.{Half}
 use Rattle.layout.specs.declared.Half.the-variants.{Originals, Replicas}
 use Rattle.layout.specs.Stored.{firstCell, lastCell, holds, holdsTrip, isOriginal, isIn, isOf, subdivisionOf, belongs}
 use Rattle.layout.specs.Words.{order, partitionNumber, subdivisionAt}
-use Rattle.layout.specs.Refusals.{fits, onRuler}
+use Rattle.layout.specs.Refusals.{fits}
 use Rattle.layout.proofs.Partitions.{width-step, of-within, to-within, holds-within, holds-parent, to-holds}
 use Rattle.layout.proofs.Numbers.{level-number, place-number}
-use Rattle.layout.proofs.Chains.{of-onRuler, to-onRuler}
+use Rattle.layout.proofs.Chains.{of-fits}
 use Rattle.layout.proofs.Sides.{ofOriginals, of-isOf, to-isOf}
 use Rattle.verify.specs.Passing.{inRow}
 use Rattle.verify.specs.Local.{standsAt, slotOk}
 use Rattle.verify.specs.Frames.{cells, hasCell, AtLevel, startsOf, endsOf, frameOf, FrameAt, standsIn}
 use Rattle.verify.proofs.Passing.{bool-ext}
-
--- ---- tests 4 and 5
-
-pub by-spans : (s : Scale) (a b : Time) → spans s a b ≡ onRuler s a b
-by-spans s a b =
-    bool-ext (spans s a b) (onRuler s a b)
-    (λ t. let f = of-three (s .has a) (s .has b) (noLater a b) t in
-    to-onRuler s a b (record { starts = f .0; ends = f .1; ordered = leb→le (a .0) (b .0) (f .2) }))
-    (λ t. let f = of-onRuler s a b t in
-    to-three (s .has a) (s .has b) (noLater a b) (f .starts, f .ends, le→leb (a .0) (b .0) (f .ordered)))
 
 -- ---- a partition and its parent
 
@@ -286,11 +275,11 @@ in-frame s fair h aft L i deep there t = go (fits s t) refl
   where
     go : (v : Bool) → fits s t ≡ v → standsIn s (frameOf (s .m) h aft L i) t ≡ standsAt s (subdivisionOf h aft) L i t
     go true e =
-        let f = of-onRuler s (t .start) (t .end) (to-T e) in
+        let f = of-fits s t (to-T e) in
         let a = s .cell (t .start) in
         let b = s .cell (t .end) in
         ap (λ (x : Bool). fits s t && x)
-        (bool-ext _ _ (of-frame (s .m) L i a b deep there h aft) (to-frame (s .m) L i a b deep there h aft (fair .one-of (t .end) (f .ends))))
+        (bool-ext _ _ (of-frame (s .m) L i a b deep there h aft) (to-frame (s .m) L i a b deep there h aft (fair .one-of (t .end) (f .times .ends))))
     go false e = rw e
 
 -- so the trips of slot k, which is one of partition i of level L, stand in a row in its frame exactly if the slot is as it should be

@@ -27,7 +27,7 @@ use Rattle.layout.proofs.RowOrder.{slot-order}
 use Rattle.layout.proofs.Indexes.{of-isIndex, to-isIndex}
 use Rattle.layout.proofs.SlotMembers.{inSlot}
 use Rattle.layout.proofs.LocalConditions.{slotsOf, Standing, Proper, Laid, originalsHalf, replicasHalf, all-fit, originals-are, local-index, index-local}
-use Rattle.layout.proofs.Chains.{of-onRuler, to-onRuler}
+use Rattle.layout.proofs.Chains.{of-fits, to-fits}
 use Rattle.store.specs.Ids.{idsDiffer}
 use Rattle.store.proofs.Differing.{of-idsDiffer, to-idsDiffer}
 use Rattle.store.specs.Homes.{home}
@@ -62,7 +62,7 @@ module _ (s : Scale) (h : Half) (dir arena : List ℕ) (f : ℕ → List Trip) (
   to-slotsOk c =
       let n : length dir - 1 ≡ slotsOf s = omega (arith, laid-length dir arena f _ w) in
       let stands : (k : ℕ) → k < slotsOf s → (u : Trip) → Mem u (f k) → T (fits s u && inSlot s h k u) = λ k l u m.
-      to-and (fits s u) (inSlot s h k u) (to-onRuler s (u .start) (u .end) (c .fits k l u m)) (c .right k l u m)
+      to-and (fits s u) (inSlot s h k u) (to-fits s u (c .fits k l u m)) (c .right k l u m)
       in
       rw n (to-below (λ k. slotOk s h k (slotAt dir arena k)) (slotsOf s) (λ k l.
       rw (laid-at dir arena f (slotsOf s) w k l) (to-row _ (order (subdivisionAt h k)) (stands k l) (c .sorted k l))))
@@ -78,7 +78,7 @@ of-slotsOk s h dir arena e t =
     of-and (fits s u) (inSlot s h k u) (row-passes _ (slot-order (subdivisionAt h k)) (f k) (row k l) u m)
     in
     record {
-      fits = λ k l u m. of-onRuler s (u .start) (u .end) (both k l u m .0);
+      fits = λ k l u m. of-fits s u (both k l u m .0);
       right = λ k l u m. both k l u m .1;
       sorted = λ k l. row-sorted _ (slot-order (subdivisionAt h k)) (f k) (row k l);
     }
@@ -103,9 +103,9 @@ module _ (s : Scale) (fair : Fair s) (o orig r repl : List ℕ) where
       let there : Mem t (slotAt o orig (home s t)) =
       rw (laid-at o orig f n a (home s t) lt, originals-are s fair f g c (home s t) lt) (home-slot s fair t fit ts (c .known (v .0) (v .1) t (v .2)))
       in
-      to-and (fits s t) _ (to-onRuler s (t .start) (t .end) fit) (to-some (sameTrip t) (slotAt o orig (home s t)) t there (same-refl t))
+      to-and (fits s t) _ (to-fits s t fit) (to-some (sameTrip t) (slotAt o orig (home s t)) t there (same-refl t))
       in
-      let all-fits : T (each (fits s) ts) = to-each (fits s) ts (λ t m. to-onRuler s (t .start) (t .end) (all-fit s fair f g c t m)) in
+      let all-fits : T (each (fits s) ts) = to-each (fits s) ts (λ t m. to-fits s t (all-fit s fair f g c t m)) in
       let sum = sumOver (partitionsHolding s) ts in
       let counted : T (eqb (length ts + length (joined g n)) sum) = rw (c .total) (eqb-refl sum) in
       to-and (halfOk o orig && halfOk r repl) _ (to-and (halfOk o orig) _ (half-passes s Originals o orig f a) (half-passes s Replicas r repl g b))
@@ -146,7 +146,7 @@ module _ (s : Scale) (fair : Fair s) (o orig r repl : List ℕ) where
         let a = of-each (isKnown s o orig) (tripsOf r repl) (t6 .0) u (rw tr (to-joined (slotAt r repl) n k u h m)) in
         let b = of-and (fits s u) (some (sameTrip u) (slotAt o orig (home s u))) a in
         let v = of-some (sameTrip u) (slotAt o orig (home s u)) (b .1) in
-        rw (of-same u (v .0) (v .2)) (to-joined (slotAt o orig) n (home s u) (v .0) (home-lt s fair u (of-onRuler s (u .start) (u .end) (b .0))) (v .1))
+        rw (of-same u (v .0) (v .2)) (to-joined (slotAt o orig) n (home s u) (v .0) (home-lt s fair u (of-fits s u (b .0))) (v .1))
         in (
           parts .0,
           parts .1,

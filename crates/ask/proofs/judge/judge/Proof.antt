@@ -1,6 +1,5 @@
--- By what the code names, and by what 4 and 5 say.
+-- By what the code names, and by what the tests of the window say.
 use mathlib.Core.Path.{sym, _∙_}
-use Rattle.layout.specs.Refusals.{windowTests}
 use Rattle.ask.specs.QuestionJudged.{judgedAs, judgedOf}
 use borrow.Author.Needs.{needs}
 use Rattle.ask.proofs.judge.judge.Statement.{statement}
@@ -19,31 +18,31 @@ returns : tie.Need-returns
 unfolding judgedOf judgedAs
 returns c = rw (sym (c .before .before .relationship-of .ensures) ∙ c .enum-told .given .1)
 
-time-outcome-requires : tie.Need-time-outcome-requires
-time-outcome-requires c κs = search needs
+window-outcome-requires : tie.Need-window-outcome-requires
+window-outcome-requires c κs = search needs
 
-enum-known-times : tie.Need-enum-known-times
-enum-known-times c = search needs
+enum-known-when : tie.Need-enum-known-when
+enum-known-when c = search needs
 
 returns-2 : tie.Need-returns-2
-unfolding judgedOf judgedAs windowTests
+unfolding judgedOf judgedAs
 returns-2 c =
     let after-code = c .before .before .before .before .before .before in
     rw (
       sym (after-code .before .before .relationship-of .ensures) ∙ after-code .relationship .given .1,
-      sym (c .before .before .before .time-outcome .ensures) ∙ c .before .times .given .1,
+      sym (c .before .before .before .window-outcome .ensures) ∙ c .before .when .given .1,
     )
 
 enum-told-2 : tie.Need-enum-told-2
 enum-told-2 c = search needs
 
 returns-3 : tie.Need-returns-3
-unfolding judgedOf judgedAs windowTests
+unfolding judgedOf judgedAs
 returns-3 c =
     let after-code = c .before .before .before .before .before in
     rw (
       sym (after-code .before .before .relationship-of .ensures) ∙ after-code .relationship .given .1,
-      sym (c .before .before .time-outcome .ensures) ∙ c .enum-told2 .given .1,
+      sym (c .before .before .window-outcome .ensures) ∙ c .enum-told2 .given .1,
     )
 
 pub judge-spec : {M : Type 1} → statement M
@@ -54,8 +53,8 @@ judge-spec =
     enum-known-relationship
     enum-told
     returns
-    time-outcome-requires
-    enum-known-times
+    window-outcome-requires
+    enum-known-when
     returns-2
     enum-told-2
     returns-3)

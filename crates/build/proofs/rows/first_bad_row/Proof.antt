@@ -27,8 +27,8 @@ abbrev μ-loop : tie.MeasureT-loop
 loop-holds : tie.Need-loop-holds Inv-loop μ-loop
 loop-holds c = (omega arith, refl)
 
-row-outcome-requires : tie.Need-row-outcome-requires Inv-loop μ-loop
-row-outcome-requires c κs =
+outcome-at-requires : tie.Need-outcome-at-requires Inv-loop μ-loop
+outcome-at-requires c κs =
     let g = c .before .before .before in
     (g .pre .0, ((omega arith, g .pre .1 .0), g .pre .1 .1))
 
@@ -40,10 +40,10 @@ returns c =
     let g = c .before .before .before .before .before .before in
     let k = c .before .before .before .before .loop in
     let s = scale (g .args .ruler) in
-    let found = c .before .before .row-outcome .result in
+    let found = c .before .before .outcome-at .result in
     let bad = sym (c .before .is-accepted .ensures) ∙ not-true _ (c .if1 .taken) in
     let rest = firstBadRow s (k .i + 1) (rowsBack (g .args .table .now) (k .i + 1)) (drop (k .i + 1) (rows (g .args .table .now))) Accepted in
-    sym (then-refused found rest bad) ∙ ap (λ (o : Outcome). andThen o rest) (c .before .before .row-outcome .ensures)
+    sym (then-refused found rest bad) ∙ ap (λ (o : Outcome). andThen o rest) (c .before .before .outcome-at .ensures)
     ∙ sym (rows-turn s (g .args .table .now) (k .i) (omega arith)) ∙ k .inv .1
 
 add-i : tie.Need-add-i Inv-loop μ-loop
@@ -57,11 +57,11 @@ loop-again c =
     let g = c .before .before .before .before .before .before in
     let k = c .before .before .before .before .loop in
     let s = scale (g .args .ruler) in
-    let found = c .before .before .row-outcome .result in
+    let found = c .before .before .outcome-at .result in
     let fine = sym (c .before .is-accepted .ensures) ∙ not-false _ (c .if1 .left) in
     let rest = firstBadRow s (k .i + 1) (rowsBack (g .args .table .now) (k .i + 1)) (drop (k .i + 1) (rows (g .args .table .now))) Accepted in (
       omega arith,
-      sym (then-accepted found rest fine) ∙ ap (λ (o : Outcome). andThen o rest) (c .before .before .row-outcome .ensures)
+      sym (then-accepted found rest fine) ∙ ap (λ (o : Outcome). andThen o rest) (c .before .before .outcome-at .ensures)
           ∙ sym (rows-turn s (g .args .table .now) (k .i) (omega arith)) ∙ k .inv .1,
     )
 
@@ -78,7 +78,7 @@ first-bad-row-spec =
     Inv-loop
     μ-loop
     loop-holds
-    row-outcome-requires
+    outcome-at-requires
     is-accepted-requires
     returns
     add-i

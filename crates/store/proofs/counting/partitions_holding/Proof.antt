@@ -17,7 +17,7 @@ pieces-to-requires c κs =
     let g = c .before .before in
     let r = g .args .ruler in
     let t = g .args .t in
-    let ordered = fair-ruler r (g .pre .0) .never-falls (t .start) (t .end) (g .pre .1 .ordered) in
+    let ordered = fair-ruler r (g .pre .0) .never-falls (t .start) (t .end) (g .pre .1 .times .ordered) in
     rw (c .bottom-cell2 .ensures, c .before .bottom-cell .ensures) (deep-ruler r (g .pre .0), ordered, last-cell r (g .pre .0) t (g .pre .1))
 
 returns : tie.Need-returns

@@ -8,7 +8,7 @@ use Rattle.ruler.specs.Ruler.{deepest, scale}
 use Rattle.layout.specs.Words.{tripAt, rows, partitionsHolding}
 use Rattle.layout.specs.Stored.{mostPartitions}
 use Rattle.layout.specs.Refusals.{fits}
-use Rattle.layout.proofs.Chains.{of-onRuler}
+use Rattle.layout.proofs.Chains.{of-fits}
 use Rattle.layout.proofs.MostPartitions.{deepest-most}
 use Rattle.layout.proofs.RulerCells.{deep-ruler}
 use Rattle.verify.specs.Local.{countsTo}
@@ -38,7 +38,7 @@ partitions-holding-requires c κs =
     let part = g .args .part .now in
     let t = tripAt part (c .before .before .loop .k) in
     let fit = each-row part (fits (scale (g .args .ruler))) (g .pre .1 .1) (c .before .before .loop .k) (omega arith) in
-    (g .pre .0, rw (c .trip-at .ensures) (of-onRuler (scale (g .args .ruler)) (t .start) (t .end) (to-T fit)))
+    (g .pre .0, rw (c .trip-at .ensures) (of-fits (scale (g .args .ruler)) t (to-T fit)))
 
 cast-sum : tie.Need-cast-sum Inv-loop μ-loop
 cast-sum c = omega arith

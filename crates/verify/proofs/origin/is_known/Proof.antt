@@ -4,7 +4,7 @@ use Rattle.lists.proofs.Tests.{to-T}
 use Rattle.ruler.specs.Ruler.{scale}
 use Rattle.layout.specs.Words.{partitions, halfLength}
 use Rattle.layout.specs.Refusals.{Fits}
-use Rattle.layout.proofs.Chains.{of-onRuler}
+use Rattle.layout.proofs.Chains.{of-fits}
 use Rattle.store.proofs.Homes.{home-in}
 use Rattle.verify.specs.Local.{isKnown}
 use Rattle.verify.proofs.SlotsCut.{slot-in}
@@ -15,7 +15,7 @@ use Rattle.verify.proofs.origin.is_known.Tie as tie
 
 -- the trip fits
 trip-fits : (c : tie.Start) → Fits (scale (c .args .ruler)) (c .args .t)
-trip-fits c = of-onRuler (scale (c .args .ruler)) (c .args .t .start) (c .args .t .end) (to-T (c .pre .1 .1 .1 .0))
+trip-fits c = of-fits (scale (c .args .ruler)) (c .args .t) (to-T (c .pre .1 .1 .1 .0))
 
 home-requires : tie.Need-home-requires
 home-requires c κs = let g = c .before .before in (g .pre .0, trip-fits g)

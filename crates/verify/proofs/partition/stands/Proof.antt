@@ -4,7 +4,7 @@ use borrow.Author.Tests.{not-true, not-false}
 use Rattle.lists.proofs.Tests.{to-T}
 use Rattle.ruler.specs.Ruler.{scale}
 use Rattle.layout.specs.Refusals.{Fits}
-use Rattle.layout.proofs.Chains.{of-onRuler}
+use Rattle.layout.proofs.Chains.{of-fits}
 use Rattle.verify.specs.Frames.{standsIn}
 use borrow.Author.Needs.{needs}
 use Rattle.verify.proofs.partition.stands.Statement.{statement}
@@ -17,7 +17,7 @@ tested c = c .before .before .before .before .before
 fit : (c : tie.Else1) → let a = c .before .before .args in Fits (scale (a .ruler)) (a .t)
 fit c =
     let a = c .before .before .args in
-    of-onRuler (scale (a .ruler)) (a .t .start) (a .t .end) (to-T (sym (c .before .fits2 .ensures) ∙ not-false _ (c .if1 .left)))
+    of-fits (scale (a .ruler)) (a .t) (to-T (sym (c .before .fits2 .ensures) ∙ not-false _ (c .if1 .left)))
 
 fits-requires : tie.Need-fits-requires
 fits-requires c κs = search needs
@@ -27,7 +27,7 @@ unfolding standsIn
 returns c = let off = sym (c .before .fits2 .ensures) ∙ not-true _ (c .if1 .taken) in rw off
 
 bottom-cell-requires : tie.Need-bottom-cell-requires
-bottom-cell-requires c κs = let k = c .before .before in (k .before .before .pre .0, fit k .starts)
+bottom-cell-requires c κs = let k = c .before .before in (k .before .before .pre .0, fit k .times .starts)
 
 has-requires : tie.Need-has-requires
 has-requires c κs = rw (c .bottom-cell .ensures) (c .before .before .before .before .before .pre .1 .starts-at)
@@ -41,7 +41,7 @@ returns-2 c =
     rw (fit, out)
 
 bottom-cell-requires-2 : tie.Need-bottom-cell-requires-2
-bottom-cell-requires-2 c κs = let k = tested c in (k .before .before .pre .0, fit k .ends)
+bottom-cell-requires-2 c κs = let k = tested c in (k .before .before .pre .0, fit k .times .ends)
 
 has-requires-2 : tie.Need-has-requires-2
 has-requires-2 c κs = rw (c .bottom-cell2 .ensures) (tested (c .before) .before .before .pre .1 .ends-at)
