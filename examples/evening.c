@@ -1,5 +1,5 @@
-/* The exported library from C: a small evening on a ruler of 2^18 seconds, with the trip that leaves at 23:40 and arrives at 25:10; and the same evening
-   on a ruler that is spread over a timetable which ends at 28:00. */
+/* The exported library from C: a small evening on a ruler of 2^18 seconds, with the trip that leaves at 23:40 and arrives at 25:10, and one that runs at the
+   weekend only; and the same evening on a ruler that is spread over a timetable which ends at 28:00. */
 #include <stdio.h>
 #include <stdlib.h>
 
@@ -7,6 +7,11 @@
 
 enum { W = 18, M = 10, TRIPS = 16, ANSWERS = 8, HOUR = 3600, MINUTE = 60 };
 
+/* This timetable's days are those of a week: day 0 is Monday. */
+enum { MONDAY = 0, SATURDAY = 5, SUNDAY = 6, DAYS_OF_WEEK = 7 };
+
+#define DAILY ((1u << DAYS_OF_WEEK) - 1)
+#define WEEKEND (1u << SATURDAY | 1u << SUNDAY)
 #define AT(hours, minutes) ((hours) * HOUR + (minutes) * MINUTE)
 #define TABLE(rows) rows, sizeof(rows) / sizeof(rows[0])
 
@@ -36,20 +41,20 @@ static void said(const char *call, kheyambo_said s) {
     printf("%s: %u, detail %u\n", call, s.number, s.detail);
 }
 
-/* The trips that are under way at some second of a window. */
-static void under_way(words x, uint32_t start, uint32_t end) {
+/* The trips that are under way at some second of a window, on a day. */
+static void under_way(words x, uint32_t start, uint32_t end, uint32_t day) {
     uint32_t ids[ANSWERS];
-    kheyambo_told told = kheyambo_ask(x.ruler, KHEYAMBO_G_OVERLAPS, start, end, INDEX(x), ids, ANSWERS);
-    printf("under way from %u to %u: %u, %u trips:", start, end, told.number, told.count);
+    kheyambo_told told = kheyambo_ask(x.ruler, KHEYAMBO_G_OVERLAPS, start, end, day, INDEX(x), ids, ANSWERS);
+    printf("under way from %u to %u on day %u: %u, %u trips:", start, end, day, told.number, told.count);
     for (uint32_t i = 0; i < told.count; i++) printf(" %u", ids[i]);
     printf("\n");
 }
 
-/* An answer list that is too short: nothing is written, and the detail says how long it has to be. */
-static void too_short(words x) {
+/* An answer list that is too short: nothing is written, and the detail says how long it has to be for that day. */
+static void too_short(words x, uint32_t day) {
     uint32_t one[1] = {7};
-    kheyambo_told told = kheyambo_ask(x.ruler, KHEYAMBO_G_OVERLAPS, AT(25, 5), AT(25, 10), INDEX(x), one, 1);
-    printf("a list of one word: %u, detail %u, count %u, the word is %u\n", told.number, told.detail, told.count, one[0]);
+    kheyambo_told told = kheyambo_ask(x.ruler, KHEYAMBO_G_OVERLAPS, AT(25, 5), AT(25, 10), day, INDEX(x), one, 1);
+    printf("a list of one word on day %u: %u, detail %u, count %u, the word is %u\n", day, told.number, told.detail, told.count, one[0]);
 }
 
 static void census(words x, const char *name) {
@@ -62,12 +67,12 @@ static void census(words x, const char *name) {
     }
 }
 
-/* How many trips stand under each of codes 0 to 12. Exactly one of them holds for a trip, a timing point too, so they are all trips. */
-static void every_code(words x, uint32_t start, uint32_t end) {
+/* How many trips stand under each of codes 0 to 12. Exactly one of them holds for a trip, a timing point too, so they are all trips of the day. */
+static void every_code(words x, uint32_t start, uint32_t end, uint32_t day) {
     uint32_t ids[ANSWERS], trips = 0;
-    printf("from %u to %u, code by code:", start, end);
+    printf("from %u to %u on day %u, code by code:", start, end, day);
     for (uint32_t code = KHEYAMBO_EQUALS; code <= KHEYAMBO_AFTER; code++) {
-        kheyambo_told told = kheyambo_ask(x.ruler, code, start, end, INDEX(x), ids, ANSWERS);
+        kheyambo_told told = kheyambo_ask(x.ruler, code, start, end, day, INDEX(x), ids, ANSWERS);
         printf(" %u", told.count);
         trips += told.count;
     }
@@ -97,6 +102,7 @@ static void longest_trips(void) {
         table[KHEYAMBO_ENTRY_WORDS * i] = i;
         table[KHEYAMBO_ENTRY_WORDS * i + 1] = partition;
         table[KHEYAMBO_ENTRY_WORDS * i + 2] = (1u << W) - partition - 1;
+        table[KHEYAMBO_ENTRY_WORDS * i + 3] = KHEYAMBO_EVERY_DAY;
     }
     said("the longest trips", kheyambo_build(x.ruler, TABLE(table), INDEX(x)));
     x.replicas_words--;
@@ -112,11 +118,11 @@ static void to_the_end_of_the_timetable(const uint32_t *table, size_t table_word
     said("build up to 28:00", kheyambo_build(y.ruler, table, table_words, INDEX(y)));
     census(x, "census on 18 bits");
     census(y, "census up to 28:00");
-    under_way(y, AT(25, 5), AT(25, 10));
+    under_way(y, AT(25, 5), AT(25, 10), SATURDAY);
     said("its words as if on 18 bits", kheyambo_check(x.ruler, INDEX(y)));
     said("and the other way round", kheyambo_check(y.ruler, INDEX(x)));
-    said("a trip up to 28:00", kheyambo_add(y.ruler, 301, AT(27, 30), AT(28, 0), INDEX(y)));
-    said("a second more", kheyambo_add(y.ruler, 302, AT(27, 30), AT(28, 0) + 1, INDEX(y)));
+    said("a trip up to 28:00", kheyambo_add(y.ruler, 301, AT(27, 30), AT(28, 0), DAILY, INDEX(y)));
+    said("a second more", kheyambo_add(y.ruler, 302, AT(27, 30), AT(28, 0) + 1, DAILY, INDEX(y)));
     said("a ruler that ends before it begins", kheyambo_check(kheyambo_spread(M, AT(28, 0), AT(0, 0)), INDEX(y)));
     given_back(x);
     given_back(y);
@@ -124,24 +130,29 @@ static void to_the_end_of_the_timetable(const uint32_t *table, size_t table_word
 
 int main(void) {
     const uint32_t table[] = {
-        101, AT(22, 50), AT(23, 35), /* ends before midnight */
-        117, AT(23, 40), AT(25, 10), /* the night trip */
-        204, AT(24, 55), AT(25, 40), /* the last connection */
+        101, AT(22, 50), AT(23, 35), DAILY,   /* ends before midnight */
+        117, AT(23, 40), AT(25, 10), DAILY,   /* the night trip */
+        204, AT(24, 55), AT(25, 40), WEEKEND, /* the last connection: none from Monday to Friday */
     };
     words x = lent(kheyambo_bits(W, M));
 
     said("build", kheyambo_build(x.ruler, TABLE(table), INDEX(x)));
-    under_way(x, AT(25, 5), AT(25, 10));
-    under_way(x, AT(1, 5), AT(1, 10));
-    said("a backward trip", kheyambo_add(x.ruler, 118, AT(23, 40), AT(1, 10), INDEX(x)));
-    said("one trip more", kheyambo_add(x.ruler, 118, AT(23, 55), AT(25, 20), INDEX(x)));
-    under_way(x, AT(25, 5), AT(25, 10));
-    too_short(x);
-    under_way(x, AT(1, 10), AT(1, 5));
+    under_way(x, AT(25, 5), AT(25, 10), SATURDAY);
+    under_way(x, AT(25, 5), AT(25, 10), MONDAY);
+    under_way(x, AT(1, 5), AT(1, 10), SATURDAY);
+    said("a backward trip", kheyambo_add(x.ruler, 118, AT(23, 40), AT(1, 10), DAILY, INDEX(x)));
+    said("a trip that runs on no day", kheyambo_add(x.ruler, 118, AT(23, 55), AT(25, 20), 0, INDEX(x)));
+    said("one trip more", kheyambo_add(x.ruler, 118, AT(23, 55), AT(25, 20), kheyambo_on_day(SUNDAY), INDEX(x)));
+    for (uint32_t day = SATURDAY; day <= DAYS_OF_WEEK; day++) under_way(x, AT(25, 5), AT(25, 10), day);
+    too_short(x, SUNDAY);
+    too_short(x, MONDAY);
+    under_way(x, AT(1, 10), AT(1, 5), SUNDAY);
+    under_way(x, AT(25, 5), AT(25, 10), KHEYAMBO_LAST_DAY + 1);
     said("trip 117 out", kheyambo_remove(x.ruler, 117, INDEX(x)));
     said("trip 117 out again", kheyambo_remove(x.ruler, 117, INDEX(x)));
-    said("a timing point", kheyambo_add(x.ruler, 205, AT(25, 40), AT(25, 40), INDEX(x)));
-    every_code(x, AT(25, 20), AT(25, 40));
+    said("a timing point", kheyambo_add(x.ruler, 205, AT(25, 40), AT(25, 40), DAILY, INDEX(x)));
+    every_code(x, AT(25, 20), AT(25, 40), SUNDAY);
+    every_code(x, AT(25, 20), AT(25, 40), MONDAY);
     said("check", kheyambo_check(x.ruler, INDEX(x)));
     census(x, "census");
     run(x, M, AT(22, 50));
@@ -149,7 +160,7 @@ int main(void) {
 
     x.directory[0] = 1;
     said("a damaged word", kheyambo_check(x.ruler, INDEX(x)));
-    under_way(x, AT(25, 5), AT(25, 10));
+    under_way(x, AT(25, 5), AT(25, 10), SATURDAY);
     census(x, "census of it");
     run(x, M, AT(22, 50));
     given_back(x);

@@ -7,6 +7,10 @@
      ends at 28:00. Times are given and kept as they are, not less lo.
    Every call takes a ruler first. Its fields are for the makers to fill; no value of them does harm, and one that names no ruler is refused with 1.
 
+   A row of a table and an entry of an index are four words: id, start, end, days. The days are one word, in which the bit of value 2^d says that the trip
+   runs on day d, 0 to 31; which days those are is yours to say, the days of a month or of a week. A trip that runs on no day is refused with 16. A question
+   names a day, and is answered from the trips that run on it. Every other call looks at all trips, whatever their days.
+
    The words of an index carry no ruler. Name with an index the ruler that it was made with: under another one its words may be no index at all, which
    is refused with 8.
 
@@ -20,7 +24,7 @@
    Threads. The functions share nothing and keep nothing: no globals, no heap, no locks. Any number may run at once as long as the buffers
    that a call writes are no other call's; calls that only read (check, ask, census, run) may share an index.
 
-   Stack. Every call runs on a stack of 4 KiB: 3,736 bytes were the most that any took, on the largest inputs (docs/FIGURES.md has each function's).
+   Stack. Every call runs on a stack of 4 KiB: 3,704 bytes were the most that any took, on the largest inputs (docs/FIGURES.md has each function's).
    Ids are put in order in your answer list itself.
 
    A pointer is followed by its length in words. */
@@ -41,8 +45,13 @@ enum {
     KHEYAMBO_DEEPEST = 10,         /* m is 0 to 10; beside w at most w, beside lo and hi whatever hi - lo is */
     KHEYAMBO_MOST_TRIPS = 4096,    /* the trips of an index, and the rows of a table */
     KHEYAMBO_MOST_ENTRIES = 18,    /* the most entries of one trip, in both arenas together (m = 10) */
-    KHEYAMBO_ENTRY_WORDS = 3       /* the words of a table's row and of an index's entry: id, start, end */
+    KHEYAMBO_ENTRY_WORDS = 4,      /* the words of a table's row and of an index's entry: id, start, end, days */
+    KHEYAMBO_LAST_DAY = 31         /* a day is 0 to 31 */
 };
+
+/* The days of a trip that runs on all of them, and of one that runs on this day only; 0 where there is no such day. Join several with |. */
+#define KHEYAMBO_EVERY_DAY UINT32_MAX
+static inline uint32_t kheyambo_on_day(uint32_t day) { return day > KHEYAMBO_LAST_DAY ? 0 : (uint32_t)1 << day; }
 
 /* The words of a directory for m, which must be exact, on a ruler of either kind: 6 for m = 0, 8,190 for m = 10. 0 where there is no such m. */
 static inline size_t kheyambo_directory_words(uint32_t m) {
@@ -53,7 +62,7 @@ static inline size_t kheyambo_directory_words(uint32_t m) {
    no trip has more, and most-reached). Exactly one of them is an original. */
 static inline size_t kheyambo_most_entries(uint32_t m) { return m < 2 ? 1 : 2 * ((size_t)m - 1); }
 
-/* The words that an arena needs at the most for so many trips: 12,288 for the originals and 208,896 for the replicas of 4,096 trips at m = 10. A table
+/* The words that an arena needs at the most for so many trips: 16,384 for the originals and 278,528 for the replicas of 4,096 trips at m = 10. A table
    of short trips needs far fewer replicas; a build that is refused with KHEYAMBO_NO_ROOM has changed nothing, and can be tried again with longer
    arenas. */
 static inline size_t kheyambo_originals_words(size_t trips) { return KHEYAMBO_ENTRY_WORDS * trips; }
@@ -62,7 +71,8 @@ static inline size_t kheyambo_replicas_words(uint32_t m, size_t trips) {
 }
 
 /* ---- The relationships, question q against trip s. Of codes 0 to 12 exactly one holds for each trip, also where the trip or the window starts and
-   ends in one second: so the thirteen counts of a window add up to the trips of the index, and those of codes 0 to 10 to the count of code 13. */
+   ends in one second: so the thirteen counts of a window on a day add up to the trips that run that day, and those of codes 0 to 10 to the count of
+   code 13. */
 
 enum {
     KHEYAMBO_EQUALS = 0,         /* q.st = s.st, q.end = s.end */
@@ -91,12 +101,14 @@ enum {
     KHEYAMBO_OFF_RULER = 4,            /* a start or end isn't on the ruler: 2^w or more, or outside lo..hi. Detail, in a build: the row, from 0 */
     KHEYAMBO_BACKWARD = 5,             /* start > end: a night trip whose end was wrapped? Detail as for 4 */
     KHEYAMBO_ID_TAKEN = 6,             /* Detail as for 4 */
-    KHEYAMBO_NO_ROOM = 7,              /* an arena or the answer list is too short. Detail, in a question: the matches */
+    KHEYAMBO_NO_ROOM = 7,              /* an arena or the answer list is too short. Detail, in a question: the matches that day */
     KHEYAMBO_NOT_AN_INDEX = 8,         /* the words are no table's index for this ruler and these lengths */
     KHEYAMBO_NO_RELATIONSHIP = 9,
     KHEYAMBO_NO_SUCH_ID = 10,
     /* 11 is given by no call and isn't used again: docs/REFUSALS.md */
-    KHEYAMBO_NO_SUCH_SLOT = 12
+    KHEYAMBO_NO_SUCH_SLOT = 12,
+    KHEYAMBO_NO_DAYS = 16,             /* a trip's days are 0: it runs on none. Detail as for 4 */
+    KHEYAMBO_NO_SUCH_DAY = 17          /* a question's day is above 31 */
 };
 
 /* ---- Rulers */
@@ -148,7 +160,7 @@ typedef uint32_t kheyambo_counts[KHEYAMBO_LEVELS][KHEYAMBO_SUBDIVISIONS];
 
 /* ---- The calls. The numbers after "Refuses" are in the order in which they are judged. Cost: n trips, e entries. */
 
-/* Builds the index of a table of rows, over whatever the words were. Refuses 1, 2, 3; for the first bad row 4, 5, 6; 7.
+/* Builds the index of a table of rows, over whatever the words were. Refuses 1, 2, 3; for the first bad row 4, 5, 6, 16; 7.
    Cost: one pass for each level of each trip, and a sort of each slot and of the ids; n log n at the most. */
 kheyambo_said kheyambo_build(kheyambo_ruler ruler, const uint32_t *table, size_t table_words, uint32_t *directory,
                              size_t directory_words, uint32_t *originals, size_t originals_words, uint32_t *replicas,
@@ -160,22 +172,23 @@ kheyambo_said kheyambo_check(kheyambo_ruler ruler, const uint32_t *directory, si
                              const uint32_t *originals, size_t originals_words, const uint32_t *replicas,
                              size_t replicas_words);
 
-/* Adds a trip: every word is then what a build with it would write. Refuses 1, 3, 8, 2, 4, 5, 6, 7.
+/* Adds a trip: every word is then what a build with it would write. Refuses 1, 3, 8, 2, 4, 5, 6, 16, 7.
    Cost: a check, and for each entry of the trip a move of the entries after it. */
-kheyambo_said kheyambo_add(kheyambo_ruler ruler, uint32_t id, uint32_t start, uint32_t end, uint32_t *directory,
-                           size_t directory_words, uint32_t *originals, size_t originals_words, uint32_t *replicas,
-                           size_t replicas_words);
+kheyambo_said kheyambo_add(kheyambo_ruler ruler, uint32_t id, uint32_t start, uint32_t end, uint32_t days,
+                           uint32_t *directory, size_t directory_words, uint32_t *originals, size_t originals_words,
+                           uint32_t *replicas, size_t replicas_words);
 
 /* Removes the trip with this id: every word is then what a build without it would write. Refuses 1, 3, 8, 10. Cost: as an addition. */
 kheyambo_said kheyambo_remove(kheyambo_ruler ruler, uint32_t id, uint32_t *directory, size_t directory_words,
                               uint32_t *originals, size_t originals_words, uint32_t *replicas, size_t replicas_words);
 
-/* Lists the ids of the trips to which the window stands so, in ascending order, in the first words of answers; later words stay. The window
-   is closed at both ends. An answer list of as many words as the index has trips is always long enough.
-   Refuses 1, 3, 8, 9, 4, 5, 7. Cost: a check, the matches, and a sort of them. */
-kheyambo_told kheyambo_ask(kheyambo_ruler ruler, uint32_t code, uint32_t start, uint32_t end, const uint32_t *directory,
-                           size_t directory_words, const uint32_t *originals, size_t originals_words,
-                           const uint32_t *replicas, size_t replicas_words, uint32_t *answers, size_t answers_words);
+/* Lists the ids of the trips to which the window stands so and that run on this day, in ascending order, in the first words of answers; later words
+   stay. The window is closed at both ends. An answer list of as many words as the index has trips is always long enough.
+   Refuses 1, 3, 8, 9, 4, 5, 17, 7. Cost: a check, the trips that stand so on whatever day, and a sort of the matches. */
+kheyambo_told kheyambo_ask(kheyambo_ruler ruler, uint32_t code, uint32_t start, uint32_t end, uint32_t day,
+                           const uint32_t *directory, size_t directory_words, const uint32_t *originals,
+                           size_t originals_words, const uint32_t *replicas, size_t replicas_words, uint32_t *answers,
+                           size_t answers_words);
 
 /* Counts the entries of each subdivision at each level; all zeros on a refusal. Refuses 1, 3, 8. Cost: a check, and a pass over the directory. */
 kheyambo_said kheyambo_census(kheyambo_ruler ruler, const uint32_t *directory, size_t directory_words,

@@ -2,10 +2,13 @@
    (ROOM any), on a ruler (bits, spread), and the first CALLS of five calls on them: build, check, ask, remove, add. Writes how many entries they have.
    tests/cost/count counts the instructions of each call as the difference of two runs.
 
+   cost KIND WINDOW RUNNING CALLS: of as many trips as RUNNING says one runs on day 0, and the first CALLS of three calls on the first ruler: check, and a
+   question of code 13 and day 0 over a window (short, long) with no word for its answer, and with one for each trip. Writes how many trips it finds.
+
    cost KIND ROOM times: the same trips on both rulers in turn, some hundred times, and of the time of a build and of that of a check the middle one on the
    second ruler over that on the first.
 
-   With -DBY_W_AND_M it is for a library whose calls took w and m, and has the first ruler only. */
+   With -DTHREE_WORDS it is for a library before T-07: its rows are three words, and no call takes days. */
 #include <stdio.h>
 #include <stdlib.h>
 #include <time.h>
@@ -16,8 +19,8 @@
 enum { W = 18, M = 10, DIRECTORY = 8190, HALF = DIRECTORY / 2, ROUNDS = 301 };
 
 static uint32_t directory[DIRECTORY];
-static uint32_t originals[TRIPS * KHEYAMBO_ENTRY_WORDS];
-static uint32_t replicas[TRIPS * (KHEYAMBO_MOST_ENTRIES - 1) * KHEYAMBO_ENTRY_WORDS];
+static uint32_t originals[TRIPS * ROW];
+static uint32_t replicas[TRIPS * (KHEYAMBO_MOST_ENTRIES - 1) * ROW];
 static uint32_t answers[TRIPS];
 
 static size_t room[2];
@@ -26,19 +29,16 @@ static kheyambo_ruler ruler;
 #define WORDS(list) list, sizeof(list) / sizeof(list[0])
 #define INDEX WORDS(directory), originals, room[0], replicas, room[1]
 
-#ifdef BY_W_AND_M
+#ifdef THREE_WORDS
 #define INDEX_READ const uint32_t *, size_t, const uint32_t *, size_t, const uint32_t *, size_t
 #define INDEX_WRITTEN uint32_t *, size_t, uint32_t *, size_t, uint32_t *, size_t
-kheyambo_said build_by(uint32_t w, uint32_t m, const uint32_t *, size_t, INDEX_WRITTEN) __asm__("kheyambo_build");
-kheyambo_said check_by(uint32_t w, uint32_t m, INDEX_READ) __asm__("kheyambo_check");
-kheyambo_said add_by(uint32_t w, uint32_t m, uint32_t id, uint32_t start, uint32_t end, INDEX_WRITTEN) __asm__("kheyambo_add");
-kheyambo_said remove_by(uint32_t w, uint32_t m, uint32_t id, INDEX_WRITTEN) __asm__("kheyambo_remove");
-kheyambo_told ask_by(uint32_t w, uint32_t m, uint32_t code, uint32_t start, uint32_t end, INDEX_READ, uint32_t *, size_t) __asm__("kheyambo_ask");
-#define CALL(function, ...) function##_by(W, M, __VA_ARGS__)
-static void named(const char *name) { (void)name, (void)ruler; }
+kheyambo_said add_before(kheyambo_ruler, uint32_t id, uint32_t start, uint32_t end, INDEX_WRITTEN) __asm__("kheyambo_add");
+kheyambo_told ask_before(kheyambo_ruler, uint32_t code, uint32_t start, uint32_t end, INDEX_READ, uint32_t *, size_t) __asm__("kheyambo_ask");
+#define ADD(row) add_before(ruler, row[0], row[1], row[2], INDEX)
+#define ASK(start, end, words) ask_before(ruler, KHEYAMBO_G_OVERLAPS, start, end, INDEX, answers, words)
 #else
-#define CALL(function, ...) kheyambo_##function(ruler, __VA_ARGS__)
-static void named(const char *name) { ruler = strcmp(name, "spread") ? kheyambo_bits(W, M) : kheyambo_spread(M, 0, 28 * HOUR); }
+#define ADD(row) kheyambo_add(ruler, row[0], row[1], row[2], row[3], INDEX)
+#define ASK(start, end, words) kheyambo_ask(ruler, KHEYAMBO_G_OVERLAPS, start, end, 0, INDEX, answers, words)
 #endif
 
 static int wrong = 0;
@@ -50,23 +50,43 @@ static void must(const char *call, uint32_t number) {
     }
 }
 
-static void build(void) { must("build", CALL(build, WORDS(table), INDEX).number); }
-static void check(void) { must("check", CALL(check, INDEX).number); }
-static void ask(void) { must("ask", CALL(ask, KHEYAMBO_G_OVERLAPS, 90300, 90600, INDEX, WORDS(answers)).number); }
-static void take(void) { must("remove", CALL(remove, table[0], INDEX).number); }
-static void add(void) { must("add", CALL(add, table[0], table[1], table[2], INDEX).number); }
+static void build(void) { must("build", kheyambo_build(ruler, WORDS(table), INDEX).number); }
+static void check(void) { must("check", kheyambo_check(ruler, INDEX).number); }
+static void ask(void) { must("ask", ASK(90300, 90600, TRIPS).number); }
+static void take(void) { must("remove", kheyambo_remove(ruler, table[0], INDEX).number); }
+static void add(void) { must("add", ADD(table).number); }
 
 static void (*const calls[])(void) = {build, check, ask, take, add};
 
 /* The index on this ruler, in arenas for any trips, and then as long as they are to be. */
 static void lay_out(const char *name, const char *arenas) {
-    named(name);
+    ruler = strcmp(name, "spread") ? kheyambo_bits(W, M) : kheyambo_spread(M, 0, 28 * HOUR);
     room[0] = sizeof originals / sizeof originals[0];
     room[1] = sizeof replicas / sizeof replicas[0];
     build();
     if (strcmp(arenas, "fit")) return;
-    room[0] = KHEYAMBO_ENTRY_WORDS * directory[HALF - 1];
-    room[1] = KHEYAMBO_ENTRY_WORDS * directory[DIRECTORY - 1];
+    room[0] = ROW * directory[HALF - 1];
+    room[1] = ROW * directory[DIRECTORY - 1];
+}
+
+/* ---- Questions */
+
+enum { SHORT, LONG };
+
+static const uint32_t windows[][2] = {[SHORT] = {90300, 90600}, [LONG] = {6 * HOUR, 22 * HOUR}};
+static const uint32_t *window;
+
+/* With no word for its answer a question ends when it has counted what it would list. */
+static void count(void) { must("count", ASK(window[0], window[1], 0).number == KHEYAMBO_NO_ROOM ? 0 : 1); }
+static void list(void) { must("list", ASK(window[0], window[1], TRIPS).number); }
+
+static void (*const questions[])(void) = {check, count, list};
+
+static void asked(const char *name, int calls) {
+    window = windows[strcmp(name, "long") ? SHORT : LONG];
+    lay_out("bits", "fit");
+    printf("%u\n", ASK(window[0], window[1], 0).detail);
+    for (int i = 0; i < calls; i++) questions[i]();
 }
 
 /* ---- Times */
@@ -104,13 +124,21 @@ static void in_turn(const char *arenas) {
     for (int call = 0; call < TIMED; call++) printf("%.3f\n", middle(times[call][SPREAD]) / middle(times[call][BITS]));
 }
 
+static int is(const char *word, const char *one, const char *other) { return !strcmp(word, one) || !strcmp(word, other); }
+
 int main(int n, char **words) {
-    if (n < 4 || !fill(words[1])) return 2;
+    int of_questions = n == 5 && is(words[2], "short", "long");
+    if (of_questions) running = (uint32_t)atoi(words[3]);
+    if (n < 4 || running == 0 || !fill(words[1])) return 2;
     if (n == 4 && !strcmp(words[3], "times")) {
         in_turn(words[2]);
         return wrong;
     }
     if (n != 5) return 2;
+    if (of_questions) {
+        asked(words[2], atoi(words[4]));
+        return wrong;
+    }
     lay_out(words[3], words[2]);
     printf("%u\n", directory[HALF - 1] + directory[DIRECTORY - 1]);
     for (int i = 0; i < atoi(words[4]); i++) calls[i]();

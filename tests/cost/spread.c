@@ -8,7 +8,7 @@
 #include "kheyambo.h"
 #include "trips.h"
 
-enum { DIRECTORY = 8190, ORIGINALS = TRIPS * KHEYAMBO_ENTRY_WORDS, REPLICAS = ORIGINALS * (KHEYAMBO_MOST_ENTRIES - 1) };
+enum { DIRECTORY = 8190, ORIGINALS = TRIPS * ROW, REPLICAS = ORIGINALS * (KHEYAMBO_MOST_ENTRIES - 1) };
 
 static uint32_t directory[DIRECTORY], originals[ORIGINALS], replicas[REPLICAS];
 

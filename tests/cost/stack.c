@@ -33,7 +33,7 @@ static kheyambo_counts counts;
 
 static struct {
     kheyambo_ruler ruler;
-    uint32_t code, id, start, end, level, partition, subdivision;
+    uint32_t code, id, start, end, days, day, level, partition, subdivision;
     size_t table, directory, originals, replicas, answers;
 } given;
 
@@ -46,13 +46,13 @@ static void bits(void) { given.ruler = kheyambo_bits(W, M); }
 static void spread(void) { given.ruler = kheyambo_spread(M, LO, HI); }
 static void build(void) { number = kheyambo_build(given.ruler, table, given.table, INDEX).number; }
 static void check(void) { number = kheyambo_check(given.ruler, INDEX).number; }
-static void add(void) { number = kheyambo_add(given.ruler, given.id, given.start, given.end, INDEX).number; }
+static void add(void) { number = kheyambo_add(given.ruler, given.id, given.start, given.end, given.days, INDEX).number; }
 static void take(void) { number = kheyambo_remove(given.ruler, given.id, INDEX).number; }
 static void census(void) { number = kheyambo_census(given.ruler, INDEX, &counts).number; }
 static void run(void) { number = kheyambo_run(given.ruler, given.level, given.partition, given.subdivision, INDEX).number; }
 
 static void ask(void) {
-    kheyambo_told told = kheyambo_ask(given.ruler, given.code, given.start, given.end, INDEX, answers, given.answers);
+    kheyambo_told told = kheyambo_ask(given.ruler, given.code, given.start, given.end, given.day, INDEX, answers, given.answers);
     number = told.number;
     count = told.count;
 }
@@ -146,10 +146,12 @@ static void prepare(size_t t, size_t d, unsigned function) {
     for (uint32_t i = 0; i < TRIPS; i++) {
         table[ROW * i] = ids[d].of(i);
         times[t].put(i, table + ROW * i);
+        table[ROW * i + 3] = KHEYAMBO_EVERY_DAY;
     }
     on->named();
     given.code = KHEYAMBO_G_OVERLAPS;
     given.id = row[0], given.start = function == ASK ? on->first : row[1], given.end = function == ASK ? on->last : row[2];
+    given.days = row[3], given.day = KHEYAMBO_LAST_DAY;
     given.level = M, given.partition = on->cell(table[1]), given.subdivision = KHEYAMBO_O_IN;
     given.table = ORIGINALS, given.directory = DIRECTORY, given.originals = ORIGINALS, given.replicas = REPLICAS, given.answers = TRIPS;
     memset(originals + ORIGINALS, 0, sizeof(uint32_t) * ROW);
@@ -171,6 +173,8 @@ static int start_before_first_by(uint32_t x) { given.start = on->first - x; retu
 static int end_after_last_by(uint32_t x) { given.end = on->last + x; return 1; }
 static int backward_before_last_by(uint32_t x) { given.start = on->last - x + 1, given.end = on->last - x; return 1; }
 static int id_of_row(uint32_t x) { given.id = table[ROW * x]; return 1; }
+static int days(uint32_t x) { given.days = x; return 1; }
+static int day(uint32_t x) { given.day = x; return 1; }
 static int code(uint32_t x) { given.code = x; return 1; }
 static int level(uint32_t x) { given.level = x; return 1; }
 static int partition(uint32_t x) { given.partition = x; return 1; }
@@ -183,9 +187,11 @@ static int row_after_last(uint32_t x) { table[ROW * x + 2] = on->last + 1; retur
 static int row_before_first(uint32_t x) { table[ROW * x + 1] = on->first - 1; return on->first > 0; }
 static int row_backward(uint32_t x) { table[ROW * x + 1] = on->first + 1, table[ROW * x + 2] = on->first; return 1; }
 static int row_with_first_id(uint32_t x) { table[ROW * x] = table[0]; return 1; }
+static int row_of_no_day(uint32_t x) { table[ROW * x + 3] = 0; return 1; }
 static int directory_word(uint32_t x) { directory[x] += 1; return 1; }
 static int original_word(uint32_t x) { originals[x] = UINT32_MAX; return 1; }
 
+static size_t originals_used(void) { return ROW * (size_t)directory[HALF - 1]; }
 static size_t replicas_used(void) { return ROW * (size_t)directory[DIRECTORY - 1]; }
 static int first_replica_word(uint32_t x) { replicas[0] += x; return replicas_used() > 0; }
 
@@ -234,6 +240,14 @@ static int replicas_short_by(uint32_t x) {
     return before + x <= all;
 }
 
+/* Every second trip runs that day, and the list has a word for each of them less by so many. */
+static int half_that_day(uint32_t x) {
+    for (uint32_t i = 0; i < TRIPS; i += 2) table[ROW * i + 3] = kheyambo_on_day(0);
+    lay_out(TRIPS);
+    given.answers = TRIPS / 2 - x;
+    return 1;
+}
+
 static void renamed(uint32_t *arena, size_t words, uint32_t from, uint32_t to) {
     for (size_t i = 0; i < words; i += ROW) {
         if (arena[i] == from) arena[i] = to;
@@ -248,11 +262,24 @@ static int id_twice(uint32_t x) {
     return 1;
 }
 
+static void with_days(uint32_t *arena, size_t words, uint32_t id, uint32_t x) {
+    for (size_t i = 0; i < words; i += ROW) {
+        if (arena[i] == id) arena[i + 3] = x;
+    }
+}
+
+/* The days of the first trip, in all of its entries. */
+static int days_of_first(uint32_t x) {
+    with_days(originals, originals_used(), originals[0], x);
+    with_days(replicas, replicas_used(), originals[0], x);
+    return 1;
+}
+
 /* A word more in each arena, and among those after the last entry one that is not 0: the first or the last, of the originals or the replicas. */
 static int tail_word(uint32_t x) {
     given.originals = ORIGINALS + 1, given.replicas = REPLICAS + 1;
     switch (x) {
-    case 0: originals[ROW * (size_t)directory[HALF - 1]] = 1; break;
+    case 0: originals[originals_used()] = 1; break;
     case 1: originals[ORIGINALS] = 1; break;
     case 2: replicas[replicas_used()] = 1; break;
     default: replicas[REPLICAS] = 1;
@@ -282,6 +309,8 @@ static const struct row {
     {0, ASK, CHANGED(question, 4)}, {0, ASK, CHANGED(question, 5)}, {0, ASK, CHANGED(question, 6)}, {0, ASK, CHANGED(question, 7)},
     {0, ASK, CHANGED(question, 8)}, {0, ASK, CHANGED(question, 9)}, {0, ASK, CHANGED(question, 10)}, {0, ASK, CHANGED(question, 11)},
     {0, ASK, CHANGED(question, 12)}, {0, ASK, CHANGED(question, 13)},
+    {0, ASK, CHANGED(half_that_day, 0)}, {7, ASK, CHANGED(half_that_day, 1)},
+    {0, ON_INDEX, CHANGED(days_of_first, 1)},
     {0, RUN, CHANGED(subdivision, 1)}, {0, RUN, CHANGED(subdivision, 2)}, {0, RUN, CHANGED(subdivision, 3)},
     {1, EVERY, CHANGED(w, 0)}, {1, EVERY, CHANGED(w, 25)}, {1, EVERY, CHANGED(w, M - 1)}, {1, EVERY, CHANGED(m, 11)},
     {1, EVERY, CHANGED(lo, HI)}, {1, EVERY, CHANGED(lo, UINT32_MAX)}, {1, EVERY, CHANGED(hi, 1 << 24)}, {1, EVERY, CHANGED(hi, UINT32_MAX)},
@@ -301,6 +330,7 @@ static const struct row {
     {8, ON_INDEX, CHANGED(original_word, 1)}, {8, ON_INDEX, CHANGED(original_word, ORIGINALS - 2 * ROW + 2)},
     {8, ON_INDEX, CHANGED(first_replica_word, 1)}, {8, ON_INDEX, CHANGED(last_replica_word, 1)},
     {8, ON_INDEX, CHANGED(id_twice, 1)}, {8, ON_INDEX, CHANGED(id_twice, TRIPS - 2)},
+    {8, ON_INDEX, CHANGED(days_of_first, 0)},
     {8, ON_INDEX, CHANGED(tail_word, 0)}, {8, ON_INDEX, CHANGED(tail_word, 1)},
     {8, ON_INDEX, CHANGED(tail_word, 2)}, {8, ON_INDEX, CHANGED(tail_word, 3)},
     {8, ON_INDEX, CHANGED(originals_words, ORIGINALS - ROW - 1)}, {8, ON_INDEX, CHANGED(w, W - 1)},
@@ -309,6 +339,8 @@ static const struct row {
     {9, ASK, CHANGED(code, 14)}, {9, ASK, CHANGED(code, UINT32_MAX)},
     {10, REMOVE, CHANGED(absent_id, 0)}, {10, REMOVE, CHANGED(absent_id, 1u << 31)},
     {12, RUN, CHANGED(level, M + 1)}, {12, RUN, CHANGED(partition, 1 << M)}, {12, RUN, CHANGED(subdivision, 4)},
+    {16, BUILD, CHANGED(row_of_no_day, 0)}, {16, BUILD, CHANGED(row_of_no_day, TRIPS - 1)}, {16, ADD, CHANGED(days, 0)},
+    {17, ASK, CHANGED(day, KHEYAMBO_LAST_DAY + 1)}, {17, ASK, CHANGED(day, UINT32_MAX)},
 };
 
 enum { ROWS = sizeof rows / sizeof rows[0] };

@@ -1,5 +1,6 @@
 /* 4,096 trips of a kind, by a fixed rule, for the programs that measure: `fill` writes their rows into `table`. All of them end by 28:00, and all but those
-   of the kind day begin at 04:00 or later. */
+   of the kind day begin at 04:00 or later. All of them run on every day, unless `running` is more than 1: of so many trips one runs then on day 0, and the
+   others on every other day. With -DTHREE_WORDS rows are those of a library before T-07: id, start, end. */
 #ifndef TRIPS_H
 #define TRIPS_H
 
@@ -8,9 +9,16 @@
 
 #include "kheyambo.h"
 
+#ifdef THREE_WORDS
+enum { ROW = 3 };
+#else
+enum { ROW = KHEYAMBO_ENTRY_WORDS };
+#endif
+
 enum { TRIPS = KHEYAMBO_MOST_TRIPS, MINUTE = 60, HOUR = 3600 };
 
-static uint32_t table[TRIPS * KHEYAMBO_ENTRY_WORDS];
+static uint32_t table[TRIPS * ROW];
+static uint32_t running = 1;
 
 static uint64_t state;
 
@@ -20,9 +28,9 @@ static uint32_t drawn(uint32_t below) {
 }
 
 static void put(uint32_t i, uint32_t id, uint32_t start, uint32_t length) {
-    table[KHEYAMBO_ENTRY_WORDS * i] = id;
-    table[KHEYAMBO_ENTRY_WORDS * i + 1] = start;
-    table[KHEYAMBO_ENTRY_WORDS * i + 2] = start + length;
+    uint32_t *row = table + ROW * i;
+    row[0] = id, row[1] = start, row[2] = start + length;
+    if (ROW > 3) row[ROW - 1] = i % running == 0 ? KHEYAMBO_EVERY_DAY : KHEYAMBO_EVERY_DAY ^ kheyambo_on_day(0);
 }
 
 /* Ids that differ, in no order: each step can be undone, so no two numbers become one. */

@@ -19,6 +19,6 @@ answeredAs o ids list = asked o (ifAccepted o (length ids) 0) (ifAccepted o (ove
 unfoldable pub listedOf : (ids list : List ℕ) → Asked
 listedOf ids list = answeredAs (roomTest (length ids) (length list)) ids list
 
--- 9, 4, 5, 7: a question to the table of an index
+-- 9, 4, 5, 17, 7: a question to the table of an index
 unfoldable pub answerOf : Scale → List Trip → Asking → (list : List ℕ) → Asked
 answerOf s ts q list = let ids = answerTo q ts in answeredAs (questionTests s q (roomTest (length ids) (length list))) ids list

@@ -1,4 +1,4 @@
--- 9, 4 and 5 of a question as it is put: the question that it is, or the refusal.
+-- 9, 4, 5 and 17 of a question as it is put: the question that it is, or the refusal.
 use Rattle.ruler.specs.Ruler.{Scale}
 use Rattle.trip.specs.declared.Asking.{Asking}
 use Rattle.trip.specs.declared.Named.{Named}
@@ -18,4 +18,4 @@ judgedAs (As r) (Refused why detail) q = Unfit why
 judgedAs Nothing times q = Unfit NoRelationship
 
 unfoldable pub judgedOf : Scale → Asking → Judgement
-judgedOf s q = judgedAs (named (q .code)) (windowTests s (q .window) Accepted) q
+judgedOf s q = judgedAs (named (q .code)) (windowTests s (q .window) (q .day) Accepted) q

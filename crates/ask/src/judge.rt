@@ -1,4 +1,4 @@
-// A question as it is put, judged: its code names a relationship, and its window is on the ruler.
+// A question as it is put, judged: its code names a relationship, its window is on the ruler, and its day is one that trips can run.
 use layout::Outcome;
 use layout::Refusal;
 use layout::window_outcome;
@@ -16,7 +16,7 @@ pub enum Judgement {
     Unfit(Refusal),
 }
 
-// 9, 4 and 5, in this order.
+// 9, 4, 5 and 17, in this order.
 pub fn judge(ruler: Ruler, asking: Asking) -> Judgement
     requires { ⌜ Made ruler ⌝ }
     ensures { λ r. ⌜ r ≡ judgedOf (scale ruler) asking ⌝ }
@@ -25,12 +25,14 @@ pub fn judge(ruler: Ruler, asking: Asking) -> Judgement
         return Judgement::Unfit(Refusal::NoRelationship);
     };
     let window = asking.window;
-    let when = window_outcome(ruler, window);
+    let day = asking.day;
+    let when = window_outcome(ruler, window, day);
     if let Outcome::Refused { refusal, detail: _ } = when {
         return Judgement::Unfit(refusal);
     }
     Judgement::Fit(Question {
         window,
         relationship,
+        day,
     })
 }

@@ -5,10 +5,10 @@ use crate::judge::Judgement;
 use crate::judge::judge;
 use layout::Outcome;
 use layout::Refusal;
-use plan::bounds::Bounds;
-use plan::bounds::bounds_of;
 use plan::range::Plan;
 use plan::range::plan_for;
+use plan::sought::Sought;
+use plan::sought::sought_by;
 use ruler::Numbers;
 use ruler::Ruler;
 use store::half::trips_of;
@@ -23,10 +23,11 @@ ghost use mathlib.Core.Bool.{true};
 ghost use Prim.Native.Nat.{_≤_};
 ghost use lib.ListN.{length};
 ghost use Rattle.ruler.specs.Ruler.{mostTrips, Made, scaleOf, scale};
+ghost use Rattle.trip.specs.Trips.{lastDay};
 ghost use Rattle.layout.specs.Answers.{answer};
 ghost use Rattle.layout.specs.Refusals.{OnRuler, tableOf, isIndex, roomTest};
 ghost use Rattle.layout.specs.Calls.{index, asked, askOf};
-ghost use Rattle.plan.specs.Bounds.{inside};
+ghost use Rattle.plan.specs.Sought.{isSought};
 ghost use Rattle.walk.specs.Levels.{LevelsThere, walkMatches};
 ghost use Rattle.ask.specs.Chain.{listedOf, answerOf};
 
@@ -38,7 +39,7 @@ pub struct Answered {
 
 // Whether the matches have room in an answer list. They are counted only where the index has more trips than the list has words.
 fn room_for<'a>(
-    bounds: Bounds,
+    sought: Sought,
     plan: Plan,
     directory: &[u32],
     originals: &'a [u32],
@@ -47,17 +48,17 @@ fn room_for<'a>(
     room: usize,
 ) -> Outcome
     requires { ⌜ LevelsThere (now directory) (now originals) (now replicas) plan ⌝ }
-    requires { ⌜ (length (walkMatches (inside bounds) (now directory) (now originals) (now replicas) plan) ≤ trips)
+    requires { ⌜ (length (walkMatches (isSought sought) (now directory) (now originals) (now replicas) plan) ≤ trips)
         × (trips ≤ mostTrips) ⌝ }
     ensures { λ r.
         ⌜ r ≡ roomTest
-        (length (walkMatches (inside bounds) (now (directory .entry)) (now (originals .entry)) (now (replicas .entry)) plan))
+        (length (walkMatches (isSought sought) (now (directory .entry)) (now (originals .entry)) (now (replicas .entry)) plan))
         room ⌝ }
 {
     if trips <= room {
         return Outcome::Accepted;
     }
-    let count = count_levels(bounds, plan, directory, originals, replicas);
+    let count = count_levels(sought, plan, directory, originals, replicas);
     if room < count {
         return Outcome::Refused {
             refusal: Refusal::NoRoom,
@@ -67,7 +68,7 @@ fn room_for<'a>(
     Outcome::Accepted
 }
 
-// The answer to a question whose window is on the ruler.
+// The answer to a question that was judged.
 fn listed<'a>(
     ruler: Ruler,
     directory: &[u32],
@@ -78,7 +79,7 @@ fn listed<'a>(
 ) -> Answered
     requires { ⌜ Made ruler ⌝ }
     requires { ⌜ isIndex (scale ruler) (index (now directory) (now originals) (now replicas)) ≡ true ⌝ }
-    requires { ⌜ OnRuler (scale ruler) (question .window .start) (question .window .end) ⌝ }
+    requires { ⌜ OnRuler (scale ruler) (question .window .start) (question .window .end) × (question .day ≤ lastDay) ⌝ }
     ensures { λ r.
         ⌜ asked (r .outcome) (r .count) (now (answers .exit))
         ≡ listedOf (answer question (tableOf (scale ruler) (index (now (directory .entry)) (now (originals .entry)) (now (replicas .entry)))))
@@ -86,11 +87,11 @@ fn listed<'a>(
 {
     let window = question.window;
     let relationship = question.relationship;
-    let bounds = bounds_of(relationship, window);
+    let sought = sought_by(question);
     let plan = plan_for(ruler, relationship, window);
     let trips = trips_of(ruler.bottom(), directory);
     let room = room_for(
-        bounds,
+        sought,
         plan,
         directory,
         originals,
@@ -101,7 +102,7 @@ fn listed<'a>(
     if let Outcome::Refused { refusal, detail } = room {
         return refused(refusal, detail);
     }
-    let count = list_levels(bounds, plan, directory, originals, replicas, answers);
+    let count = list_levels(sought, plan, directory, originals, replicas, answers);
     lists::sort_ids(&mut answers[0..count]);
     Answered {
         outcome: Outcome::Accepted,

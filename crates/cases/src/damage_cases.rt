@@ -1,5 +1,5 @@
 // The check: an index, and the same words damaged in each way that there is, once. The ruler has w = 2 and m = 2; the trips are 9 [0,0], 3 [1,3]
-// and 7 [1,2], of which the last two share the O_aft slot of partition 1 of level 2 and have one replica each.
+// and 7 [1,2], of which the last two share the O_aft slot of partition 1 of level 2 and have one replica each. Their days are 1, 6 and 8.
 use crate::say;
 
 // The words of the directory, of the originals and of the replicas, each arena with a word to spare.
@@ -36,9 +36,9 @@ const DIRECTORY: [u32; 30] = [
     2,
 ];
 
-const ORIGINALS: [u32; 10] = [9, 0, 0, 3, 1, 3, 7, 1, 2, 0];
+const ORIGINALS: [u32; 13] = [9, 0, 0, 1, 3, 1, 3, 6, 7, 1, 2, 8, 0];
 
-const REPLICAS: [u32; 7] = [3, 1, 3, 7, 1, 2, 0];
+const REPLICAS: [u32; 9] = [3, 1, 3, 6, 7, 1, 2, 8, 0];
 
 // Whether the check of these words answers this number.
 fn says(directory: &[u32], originals: &[u32], replicas: &[u32], number: u32, name: &[u8]) {
@@ -58,23 +58,43 @@ fn replicas(words: &[u32], name: &[u8]) {
 
 fn as_built() {
     says(&DIRECTORY, &ORIGINALS, &REPLICAS, 0, b"check: as built");
-    let tight = &ORIGINALS[0..9];
+    let tight = &ORIGINALS[0..12];
     says(&DIRECTORY, tight, &REPLICAS, 0, b"check: no word to spare");
 }
 
 fn damaged_originals() {
-    originals(&[9, 0, 0, 3, 1, 3, 7, 1, 3, 0], b"check: a time changed");
-    originals(&[9, 0, 0, 3, 1, 3, 3, 1, 2, 0], b"check: an id twice");
-    originals(&[9, 0, 0, 7, 1, 2, 3, 1, 3, 0], b"check: out of order");
-    originals(&[9, 0, 0, 3, 1, 3, 7, 1, 2, 1], b"check: a spare word");
-    originals(&[9, 0, 0, 3, 1, 3, 7, 1], b"check: originals cut");
+    let words = [9, 0, 0, 1, 3, 1, 3, 6, 7, 1, 3, 8, 0];
+    originals(&words, b"check: a time changed");
+    let words = [9, 0, 0, 1, 3, 1, 3, 6, 3, 1, 2, 8, 0];
+    originals(&words, b"check: an id twice");
+    let words = [9, 0, 0, 1, 7, 1, 2, 8, 3, 1, 3, 6, 0];
+    originals(&words, b"check: out of order");
+    let words = [9, 0, 0, 1, 3, 1, 3, 6, 7, 1, 2, 8, 1];
+    originals(&words, b"check: a spare word");
+    let words = [9, 0, 0, 1, 3, 1, 3, 6, 7, 1, 2];
+    originals(&words, b"check: originals cut");
 }
 
 fn damaged_replicas() {
-    replicas(&[3, 1, 2, 7, 1, 2, 0], b"check: a replica changed");
-    replicas(&[7, 1, 2, 3, 1, 3, 0], b"check: replicas exchanged");
-    replicas(&[3, 1, 3, 7, 1, 2, 1], b"check: a spare word of them");
-    replicas(&[3, 1, 3, 7, 1], b"check: replicas cut");
+    replicas(&[3, 1, 2, 6, 7, 1, 2, 8, 0], b"check: a replica changed");
+    let words = [7, 1, 2, 8, 3, 1, 3, 6, 0];
+    replicas(&words, b"check: replicas exchanged");
+    let words = [3, 1, 3, 6, 7, 1, 2, 8, 1];
+    replicas(&words, b"check: a spare word of them");
+    replicas(&[3, 1, 3, 6, 7, 1, 2], b"check: replicas cut");
+}
+
+// A trip's days: 0 in its only entry; 0 in its original and in its replica; another day in one of the two.
+fn damaged_days() {
+    let words = [9, 0, 0, 0, 3, 1, 3, 6, 7, 1, 2, 8, 0];
+    originals(&words, b"check: a trip that runs on no day");
+    let words = [9, 0, 0, 1, 3, 1, 3, 6, 7, 1, 2, 0, 0];
+    let idle = [3, 1, 3, 6, 7, 1, 2, 0, 0];
+    let name = b"check: no day in both entries of a trip";
+    says(&DIRECTORY, &words, &idle, 8, name);
+    replicas(&[3, 1, 3, 7, 7, 1, 2, 8, 0], b"check: a replica's days");
+    let words = [9, 0, 0, 1, 3, 1, 3, 7, 7, 1, 2, 8, 0];
+    originals(&words, b"check: an original's days");
 }
 
 // A word of the directory that falls, one that is moved, and a total that says too many.
@@ -100,7 +120,7 @@ fn dropped_and_doubled() {
     directory[27] = 1;
     directory[28] = 1;
     directory[29] = 1;
-    let dropped = [3, 1, 3, 0, 0, 0, 0];
+    let dropped = [3, 1, 3, 6, 0, 0, 0, 0, 0];
     let name = b"check: a replica dropped";
     says(&directory, &ORIGINALS, &dropped, 8, name);
     let mut directory = DIRECTORY;
@@ -109,7 +129,7 @@ fn dropped_and_doubled() {
     directory[12] = 4;
     directory[13] = 4;
     directory[14] = 4;
-    let doubled = [9, 0, 0, 3, 1, 3, 7, 1, 2, 7, 1, 2];
+    let doubled = [9, 0, 0, 1, 3, 1, 3, 6, 7, 1, 2, 8, 7, 1, 2, 8];
     let name = b"check: an original doubled";
     says(&directory, &doubled, &REPLICAS, 8, name);
 }
@@ -130,6 +150,7 @@ pub fn all() {
     as_built();
     damaged_originals();
     damaged_replicas();
+    damaged_days();
     damaged_directory();
     dropped_and_doubled();
     other_rulers();

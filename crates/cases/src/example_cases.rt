@@ -1,5 +1,7 @@
-// Document 01's examples that a program runs: two questions and the census of its four trips, tables of one trip, and the empty table.
+// Document 01's examples that a program runs: two questions and the census of its four trips, tables of one trip, and the empty table. "Document 01's
+// cases are run with every bit set and day 0" (T-07).
 use crate::say;
+use crate::say::EVERY_DAY;
 use trip::Asking;
 
 // Two questions to the four trips, in a list of four words. The list has the id first, and after it the words that it had.
@@ -13,7 +15,7 @@ fn lists_one<'a>(
     id: u32,
 ) -> bool {
     let mut answers = [5u32; 4];
-    let asking = Asking::of(code, start, end);
+    let asking = Asking::of(code, start, end, 0);
     let answered = ask::ask(say::ruler(6, 4), d, o, r, asking, &mut answers);
     let outcome = answered.outcome;
     say::is(outcome, 0, 0) & (answered.count == 1) & say::same(&answers, &[id, 5, 5, 5])
@@ -48,11 +50,28 @@ fn census(d: &[u32], o: &[u32], r: &[u32]) {
 // "Ruler w = 6, m = 4; trips 7 [21,38], 3 [20,20], 9 [0,63], 4 [39,40]."
 fn four_trips() {
     let mut directory = [7u32; 126];
-    let mut originals = [7u32; 12];
-    let mut replicas = [7u32; 12];
+    let mut originals = [7u32; 16];
+    let mut replicas = [7u32; 16];
     build::build(
         say::ruler(6, 4),
-        &[7, 21, 38, 3, 20, 20, 9, 0, 63, 4, 39, 40],
+        &[
+            7,
+            21,
+            38,
+            EVERY_DAY,
+            3,
+            20,
+            20,
+            EVERY_DAY,
+            9,
+            0,
+            63,
+            EVERY_DAY,
+            4,
+            39,
+            40,
+            EVERY_DAY,
+        ],
         &mut directory,
         &mut originals,
         &mut replicas,
@@ -65,12 +84,12 @@ fn four_trips() {
 fn one_second() {
     let right = say::gives(
         say::ruler(1, 1),
-        &[5, 0, 0],
+        &[5, 0, 0, EVERY_DAY],
         &[0, 0, 0, 1, 1, 1, 1, 0, 0, 0, 0, 0, 0, 0],
-        &[5, 0, 0, 0],
+        &[5, 0, 0, EVERY_DAY, 0],
         &[0, 0],
         &mut [7; 14],
-        &mut [7; 4],
+        &mut [7; 5],
         &mut [7; 2],
     );
     say::case(right, b"w 1 m 1, trip 5 [0,0]");
@@ -80,12 +99,12 @@ fn one_second() {
 fn one_level() {
     let right = say::gives(
         say::ruler(1, 0),
-        &[5, 0, 1],
+        &[5, 0, 1, EVERY_DAY],
         &[0, 1, 1, 0, 0, 0],
-        &[5, 0, 1],
+        &[5, 0, 1, EVERY_DAY],
         &[0, 0, 0],
         &mut [7; 6],
-        &mut [7; 3],
+        &mut [7; 4],
         &mut [7; 3],
     );
     say::case(right, b"w 1 m 0, trip 5 [0,1]");

@@ -1,5 +1,6 @@
 // The most trips that an index may have: 4,096 in one slot, 4,096 of 18 partitions each, and edits where there is no room for one more.
 use crate::say;
+use crate::say::EVERY_DAY;
 use layout::ENTRY_WORDS;
 use trip::Trip;
 ghost use Prim.Native.Nat.{_+_, _*_, _≤_};
@@ -21,6 +22,7 @@ fn put_row(table: &mut [u32], row: usize, id: u32, start: u32, end: u32)
     table[at] = id;
     table[at + 1] = start;
     table[at + 2] = end;
+    table[at + 3] = EVERY_DAY;
 }
 
 // 4,096 rows with 18 partitions each: 17 replicas beside the original.
@@ -53,11 +55,11 @@ fn is_table(table: &[u32], originals: &[u32]) -> bool {
     say::same(table, &originals[0..n])
 }
 
-// With 4,096 trips one more gives 2, whatever its times are, and nothing changes.
+// With 4,096 trips one more gives 2, whatever its times and days are, and nothing changes.
 fn one_too_many(table: &[u32], directory: &mut [u32], originals: &mut [u32]) -> bool {
-    let fair = Trip::of(5000, 0, 0);
+    let fair = Trip::of(5000, 0, 0, EVERY_DAY);
     let refused = edit::add(say::ruler(1, 1), directory, originals, &mut [], fair);
-    let bad = Trip::of(0, 9, 8);
+    let bad = Trip::of(0, 9, 8, 0);
     let bad_refused = edit::add(say::ruler(1, 1), directory, originals, &mut [], bad);
     say::is(refused, 2, 0) & say::is(bad_refused, 2, 0) & is_table(table, originals)
 }
@@ -65,7 +67,7 @@ fn one_too_many(table: &[u32], directory: &mut [u32], originals: &mut [u32]) -> 
 // Trip 17 out and in again: the words are those of the table again.
 fn out_and_in(table: &[u32], directory: &mut [u32], originals: &mut [u32]) -> bool {
     let out = edit::remove(say::ruler(1, 1), directory, originals, &mut [], 17);
-    let back = Trip::of(17, 0, 0);
+    let back = Trip::of(17, 0, 0, EVERY_DAY);
     let again = edit::add(say::ruler(1, 1), directory, originals, &mut [], back);
     say::is(out, 0, 0) & say::is(again, 0, 0) & is_table(table, originals)
 }

@@ -3,6 +3,9 @@ use layout::Outcome;
 use libc::STDOUT_FILENO;
 use ruler::Numbers;
 
+// The days of a trip that runs on all of them.
+pub const EVERY_DAY: u32 = 4294967295;
+
 // One case: whether it is right, and its name.
 pub fn case(right: bool, name: &[u8]) {
     if right {

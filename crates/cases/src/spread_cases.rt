@@ -5,10 +5,10 @@ use ruler::Numbers;
 use trip::Asking;
 use trip::Trip;
 
-// Trips 8 [44,60], 2 [58,59], 6 [40,60] and 3 [60,60]; and the same without trip 8.
-const TABLE: [u32; 12] = [8, 44, 60, 2, 58, 59, 6, 40, 60, 3, 60, 60];
+// Trips 8 [44,60], 2 [58,59], 6 [40,60] and 3 [60,60]; and the same without trip 8. All trips run on day 0, the bit of value 1.
+const TABLE: [u32; 16] = [8, 44, 60, 1, 2, 58, 59, 1, 6, 40, 60, 1, 3, 60, 60, 1];
 
-const REST: [u32; 9] = [3, 60, 60, 6, 40, 60, 2, 58, 59];
+const REST: [u32; 12] = [3, 60, 60, 1, 6, 40, 60, 1, 2, 58, 59, 1];
 
 fn from_40_to_60() -> Numbers {
     say::spread(3, 40, 60)
@@ -32,13 +32,13 @@ fn shows<'a>(
 // Trip 8 has cells 1 to 7: cell 1 is level 3 partition 1, O_aft; cells 2 and 3 are level 2 partition 1, R_aft; and cells 4 to 7 are level 1
 // partition 1, R_in. Trip 2 has cell 6 and trip 3 cell 7, each a partition of level 3, and trip 6 has all cells, level 0: O_in all three.
 fn places<'a>(d: &[u32], o: &'a [u32], r: &'a [u32]) {
-    let first = shows(d, o, r, 3, 1, 1, &[8, 44, 60]);
-    let between = shows(d, o, r, 2, 1, 3, &[8, 44, 60]);
-    let last = shows(d, o, r, 1, 1, 2, &[8, 44, 60]);
+    let first = shows(d, o, r, 3, 1, 1, &[8, 44, 60, 1]);
+    let between = shows(d, o, r, 2, 1, 3, &[8, 44, 60, 1]);
+    let last = shows(d, o, r, 1, 1, 2, &[8, 44, 60, 1]);
     say::case(first & between & last, b"spread: runs of trip 8");
-    let two = shows(d, o, r, 3, 6, 0, &[2, 58, 59]);
-    let six = shows(d, o, r, 0, 0, 0, &[6, 40, 60]);
-    let three = shows(d, o, r, 3, 7, 0, &[3, 60, 60]);
+    let two = shows(d, o, r, 3, 6, 0, &[2, 58, 59, 1]);
+    let six = shows(d, o, r, 0, 0, 0, &[6, 40, 60, 1]);
+    let three = shows(d, o, r, 3, 7, 0, &[3, 60, 60, 1]);
     say::case(two & six & three, b"spread: runs of trips 2, 6 and 3");
 }
 
@@ -72,18 +72,18 @@ fn lists<'a>(
 
 // Trip 8 shares cell 1 with [43,43], and [57,57] lies in the cell before that of trip 2: neither is listed. The window [40,60] is the whole ruler.
 fn questions<'a>(ruler: Numbers, d: &[u32], o: &'a [u32], r: &'a [u32], name: &[u8]) {
-    let cell = lists(ruler, d, o, r, Asking::of(13, 43, 43), 1, &[6, 5, 5, 5]);
-    let next = lists(ruler, d, o, r, Asking::of(13, 57, 57), 2, &[6, 8, 5, 5]);
-    let all = lists(ruler, d, o, r, Asking::of(13, 40, 60), 4, &[2, 3, 6, 8]);
-    let before = lists(ruler, d, o, r, Asking::of(11, 40, 59), 1, &[3, 5, 5, 5]);
-    let within = lists(ruler, d, o, r, Asking::of(10, 45, 59), 2, &[6, 8, 5, 5]);
+    let cell = lists(ruler, d, o, r, Asking::of(13, 43, 43, 0), 1, &[6, 5, 5, 5]);
+    let next = lists(ruler, d, o, r, Asking::of(13, 57, 57, 0), 2, &[6, 8, 5, 5]);
+    let all = lists(ruler, d, o, r, Asking::of(13, 40, 60, 0), 4, &[2, 3, 6, 8]);
+    let before = lists(ruler, d, o, r, Asking::of(11, 40, 59, 0), 1, &[3, 5, 5, 5]);
+    let within = lists(ruler, d, o, r, Asking::of(10, 45, 59, 0), 2, &[6, 8, 5, 5]);
     say::case(cell & next & all & before & within, name);
 }
 
 // Whether a question is refused with this number, and the list stays.
 fn unasked<'a>(d: &[u32], o: &'a [u32], r: &'a [u32], start: u32, end: u32, number: u32) -> bool {
     let mut answers = [5u32; 4];
-    let asking = Asking::of(13, start, end);
+    let asking = Asking::of(13, start, end, 0);
     let answered = ask::ask(from_40_to_60(), d, o, r, asking, &mut answers);
     let outcome = answered.outcome;
     say::is(outcome, number, 0) & (answered.count == 0) & say::same(&answers, &[5; 4])
@@ -132,8 +132,8 @@ fn answers<'a>(d: &[u32], o: &'a [u32], r: &'a [u32]) {
 
 fn four_trips() {
     let mut directory = [7u32; 62];
-    let mut originals = [7u32; 13];
-    let mut replicas = [7u32; 7];
+    let mut originals = [7u32; 17];
+    let mut replicas = [7u32; 9];
     let built = build::build(
         from_40_to_60(),
         &TABLE,
@@ -143,7 +143,7 @@ fn four_trips() {
     );
     say::case(say::is(built, 0, 0), b"spread: lo and hi are on the ruler");
     answers(&directory, &originals, &replicas);
-    originals[12] = 1;
+    originals[16] = 1;
     let name = b"spread: a spare word";
     checked(from_40_to_60(), &directory, &originals, &replicas, 8, name);
 }
@@ -151,20 +151,20 @@ fn four_trips() {
 // Whether a build is refused and writes nothing.
 fn refused(ruler: Numbers, table: &[u32], number: u32, detail: u32, name: &[u8]) {
     let mut directory = [7u32; 62];
-    let mut originals = [7u32; 6];
+    let mut originals = [7u32; 8];
     let outcome = build::build(ruler, table, &mut directory, &mut originals, &mut []);
-    let kept = say::same(&directory, &[7; 62]) & say::same(&originals, &[7; 6]);
+    let kept = say::same(&directory, &[7; 62]) & say::same(&originals, &[7; 8]);
     say::case(say::is(outcome, number, detail) & kept, name);
 }
 
 fn bad_rows() {
     let ruler = from_40_to_60();
-    let early = [6, 40, 60, 1, 39, 60];
+    let early = [6, 40, 60, 1, 1, 39, 60, 1];
     refused(ruler, &early, 4, 1, b"spread: a start of lo - 1 gives 4");
-    let late = [1, 40, 61, 6, 40, 60];
+    let late = [1, 40, 61, 1, 6, 40, 60, 1];
     refused(ruler, &late, 4, 0, b"spread: an end of hi + 1 gives 4");
-    refused(ruler, &[1, 61, 39], 4, 0, b"spread: [61,39] gives 4");
-    refused(ruler, &[1, 60, 40], 5, 0, b"spread: [60,40] gives 5");
+    refused(ruler, &[1, 61, 39, 1], 4, 0, b"spread: [61,39] gives 4");
+    refused(ruler, &[1, 60, 40, 1], 5, 0, b"spread: [60,40] gives 5");
 }
 
 // Numbers that are no ruler's, and an empty table.
@@ -189,28 +189,28 @@ fn built(table: &[u32], d: &[u32], o: &[u32], r: &[u32]) -> bool {
         o,
         r,
         &mut [9; 62],
-        &mut [9; 12],
-        &mut [9; 6],
+        &mut [9; 16],
+        &mut [9; 8],
     )
 }
 
 // Edits that are refused, and change nothing: with times off the ruler, with numbers that are no ruler's, and under a ruler that these words are no
 // index of.
 fn off_the_ruler(d: &mut [u32], o: &mut [u32], r: &mut [u32]) -> bool {
-    let early = edit::add(from_40_to_60(), d, o, r, Trip::of(8, 39, 60));
-    let late = edit::add(from_40_to_60(), d, o, r, Trip::of(8, 44, 61));
+    let early = edit::add(from_40_to_60(), d, o, r, Trip::of(8, 39, 60, 1));
+    let late = edit::add(from_40_to_60(), d, o, r, Trip::of(8, 44, 61, 1));
     say::is(early, 4, 0) & say::is(late, 4, 0) & built(&REST, d, o, r)
 }
 
 fn under_others(d: &mut [u32], o: &mut [u32], r: &mut [u32]) -> bool {
-    let unruled = edit::add(say::spread(3, 60, 60), d, o, r, Trip::of(8, 60, 60));
+    let unruled = edit::add(say::spread(3, 60, 60), d, o, r, Trip::of(8, 60, 60, 1));
     let other = edit::remove(say::spread(3, 40, 61), d, o, r, 3);
     say::is(unruled, 1, 0) & say::is(other, 8, 0) & built(&REST, d, o, r)
 }
 
 // Trip 8 comes and goes: the words are those of a build with it, and of one without it.
 fn comes(d: &mut [u32], o: &mut [u32], r: &mut [u32]) -> bool {
-    let added = edit::add(from_40_to_60(), d, o, r, Trip::of(8, 44, 60));
+    let added = edit::add(from_40_to_60(), d, o, r, Trip::of(8, 44, 60, 1));
     say::is(added, 0, 0) & built(&TABLE, d, o, r)
 }
 
@@ -221,8 +221,8 @@ fn goes(d: &mut [u32], o: &mut [u32], r: &mut [u32]) -> bool {
 
 fn edits() {
     let mut directory = [7u32; 62];
-    let mut originals = [7u32; 12];
-    let mut replicas = [7u32; 6];
+    let mut originals = [7u32; 16];
+    let mut replicas = [7u32; 8];
     build::build(
         from_40_to_60(),
         &REST,
@@ -240,23 +240,29 @@ fn edits() {
     say::case(without, b"spread: a removal is the build without it");
 }
 
+// Whether under both kinds trip 9 alone of these words shares a second with [0,2].
+fn listed_under_both<'a>(d: &[u32], o: &'a [u32]) -> bool {
+    let asking = Asking::of(13, 0, 2, 0);
+    let list = [9, 5, 5, 5];
+    let one = lists(say::spread(2, 0, 3), d, o, &[], asking, 1, &list);
+    let other = lists(say::ruler(2, 2), d, o, &[], asking, 1, &list);
+    one & other
+}
+
 // Under w = 2, m = 2 and from 0 to 3 with m = 2 a second is a cell: a table has the same words under both. Trips 9 [2,3] and 4 [3,3] are
 // level 1 partition 1 and level 2 partition 3.
 fn both_kinds() {
     let mut directory = [7u32; 30];
-    let mut originals = [7u32; 6];
+    let mut originals = [7u32; 8];
     let spread = say::spread(2, 0, 3);
     let bits = say::ruler(2, 2);
-    let table = [4, 3, 3, 9, 2, 3];
+    let table = [4, 3, 3, 1, 9, 2, 3, 1];
     let built = build::build(spread, &table, &mut directory, &mut originals, &mut []);
     say::case(say::is(built, 0, 0), b"from 0 to 3");
     let name = b"its words under w 2, m 2";
     checked(bits, &directory, &originals, &[], 0, name);
-    let asking = Asking::of(13, 0, 2);
-    let list = [9, 5, 5, 5];
-    let one = lists(spread, &directory, &originals, &[], asking, 1, &list);
-    let other = lists(bits, &directory, &originals, &[], asking, 1, &list);
-    say::case(one & other, b"the same id under both");
+    let same = listed_under_both(&directory, &originals);
+    say::case(same, b"the same id under both");
 }
 
 // No trips: an index under every ruler of this m.
@@ -272,7 +278,7 @@ fn no_trips() {
 // Builds one trip under a ruler with m = 10, and says whether its only entry is the original of a partition, in its "in" slot.
 fn stands_at(ruler: Numbers, trip: &[u32], level: u32, partition: u32) -> bool {
     let mut directory = [7u32; 8190];
-    let mut originals = [7u32; 3];
+    let mut originals = [7u32; 4];
     let built = build::build(ruler, trip, &mut directory, &mut originals, &mut []);
     let run = view::run(ruler, &directory, &originals, &[], level, partition, 0);
     say::is(built, 0, 0) & say::same(run, trip)
@@ -282,19 +288,19 @@ fn stands_at(ruler: Numbers, trip: &[u32], level: u32, partition: u32) -> bool {
 // partition 511 of level 9. The product has 34 bits. From 41 to 42 there are 1024 cells for two seconds, the first and the last.
 fn widest_and_narrowest() {
     let widest = say::spread(10, 0, 16777215);
-    let end = stands_at(widest, &[5, 16777214, 16777215], 9, 511);
+    let end = stands_at(widest, &[5, 16777214, 16777215, 1], 9, 511);
     say::case(end, b"from 0 to 2^24 - 1");
     let narrowest = say::spread(10, 41, 42);
-    let first = stands_at(narrowest, &[5, 41, 41], 10, 0);
-    let last = stands_at(narrowest, &[5, 42, 42], 10, 1023);
-    let both = stands_at(narrowest, &[5, 41, 42], 0, 0);
+    let first = stands_at(narrowest, &[5, 41, 41, 1], 10, 0);
+    let last = stands_at(narrowest, &[5, 42, 42, 1], 10, 1023);
+    let both = stands_at(narrowest, &[5, 41, 42, 1], 0, 0);
     say::case(first & last & both, b"from 41 to 42");
 }
 
 // It runs at 24:30:00, and not at 0:30:00.
 fn runs_by_night<'a>(ruler: Numbers, d: &[u32], o: &'a [u32], r: &'a [u32]) -> bool {
-    let by_night = Asking::of(13, 88200, 88800);
-    let by_day = Asking::of(13, 1800, 2400);
+    let by_night = Asking::of(13, 88200, 88800, 0);
+    let by_day = Asking::of(13, 1800, 2400, 0);
     let found = lists(ruler, d, o, r, by_night, 1, &[9, 5, 5, 5]);
     found & lists(ruler, d, o, r, by_day, 0, &[5; 4])
 }
@@ -302,12 +308,12 @@ fn runs_by_night<'a>(ruler: Numbers, d: &[u32], o: &'a [u32], r: &'a [u32]) -> b
 // A timetable that ends at 28:00:00, and the trip from 23:40:00 to 25:10:00.
 fn past_midnight() {
     let mut directory = [7u32; 8190];
-    let mut originals = [7u32; 3];
-    let mut replicas = [7u32; 51];
+    let mut originals = [7u32; 4];
+    let mut replicas = [7u32; 68];
     let ruler = say::spread(10, 0, 100800);
     build::build(
         ruler,
-        &[9, 85200, 90600],
+        &[9, 85200, 90600, 1],
         &mut directory,
         &mut originals,
         &mut replicas,

@@ -17,3 +17,4 @@ pub mod Part15
 pub mod Part16
 pub mod Part17
 pub mod Part18
+pub mod Part19

@@ -12,9 +12,9 @@ use Rattle.trip.specs.Trips.{tripOf, askingOf}
 pub data Call : Type 0 where
   build : (n : Numbers) → (table directory originals replicas : List ℕ) → Call
   check : (n : Numbers) → (directory originals replicas : List ℕ) → Call
-  add : (n : Numbers) → (id start end : ℕ) → (directory originals replicas : List ℕ) → Call
+  add : (n : Numbers) → (id start end days : ℕ) → (directory originals replicas : List ℕ) → Call
   remove : (n : Numbers) → (id : ℕ) → (directory originals replicas : List ℕ) → Call
-  ask : (n : Numbers) → (code start end : ℕ) → (directory originals replicas answers : List ℕ) → Call
+  ask : (n : Numbers) → (code start end day : ℕ) → (directory originals replicas answers : List ℕ) → Call
   run : (n : Numbers) → (level partition subdivision : ℕ) → (directory originals replicas : List ℕ) → Call
   census : (n : Numbers) → (directory originals replicas : List ℕ) → Call
 
@@ -46,8 +46,8 @@ flat (l ∷ ls) = l ++ flat ls
 unfoldable pub answerOf : Call → List ℕ
 answerOf (build n t d o r) = after (buildOf (scaleOf n) t (index d o r))
 answerOf (check n d o r) = outcome (checkOutcome (scaleOf n) (index d o r))
-answerOf (add n i s e d o r) = after (addOf (scaleOf n) (index d o r) (tripOf i s e))
+answerOf (add n i s e w d o r) = after (addOf (scaleOf n) (index d o r) (tripOf i s e w))
 answerOf (remove n i d o r) = after (removeOf (scaleOf n) (index d o r) i)
-answerOf (ask n c s e d o r a) = asked (askOf (scaleOf n) (index d o r) (askingOf c s e) a)
+answerOf (ask n c s e y d o r a) = asked (askOf (scaleOf n) (index d o r) (askingOf c s e y) a)
 answerOf (run n L i s d o r) = outcome (runOutcome (scaleOf n) (index d o r) L i s) ++ buffer (runOf (scaleOf n) (index d o r) L i s)
 answerOf (census n d o r) = outcome (checkOutcome (scaleOf n) (index d o r)) ++ flat (censusOf (scaleOf n) (index d o r))

@@ -19,3 +19,4 @@ pub mod Part15
 pub mod Part16
 pub mod Part17
 pub mod Part18
+pub mod Part19

@@ -8,6 +8,7 @@ use lib.Dec.{T, leb, ltb}
 use lib.ListN.{length}
 use Rattle.lists.specs.Lists.{keep, over}
 use Rattle.lists.specs.Sifting.{InOrder}
+use Rattle.lists.proofs.Tests.{of-and, to-and}
 use Rattle.lists.proofs.Members.{of-keep, to-keep, of-sort, to-sort}
 use Rattle.lists.proofs.Halving.{in-order}
 use Rattle.ruler.specs.declared.Numbers.{Numbers}
@@ -17,7 +18,8 @@ use Rattle.trip.specs.declared.Asking.{Asking}
 use Rattle.trip.specs.declared.Question.{Question}
 use Rattle.trip.specs.declared.Relationship.{Relationship}
 use Rattle.trip.specs.declared.Named.the-variants.{As}
-use Rattle.trip.specs.Relationships.{named}
+use Rattle.trip.specs.Relationships.{named, related}
+use Rattle.trip.specs.Trips.{runsOn}
 use Rattle.layout.specs.declared.Refusal.the-variants.{NoRoom}
 use Rattle.layout.specs.declared.Outcome.the-variants.{Accepted, Refused}
 use Rattle.layout.specs.Words.{rows, Reordered, Index, lengthsOf, layout}
@@ -57,8 +59,8 @@ module _ (n : Numbers) (x : Index) (table : List ℕ) (g : IndexOf (scaleOf n) t
   pub ask-ascends : InOrder ltb 0 (answer (question r q) (rows table)) (length (answer (question r q) (rows table)))
   ask-ascends = in-order 0 ltb (answer-ascends (question r q) (rows table) (given-table (scaleOf n) table x g .rowsOk .distinct))
 
-  -- 7 "matches exceed the answer list (detail: the matches)", of a window that passes 4 and 5
-  module _ (on-ruler : windowTests (scaleOf n) (q .window) Accepted ≡ Accepted) where
+  -- 7 "matches exceed the answer list (detail: the matches)", of a window that passes 4 and 5 and a day that passes 17
+  module _ (on-ruler : windowTests (scaleOf n) (q .window) (q .day) Accepted ≡ Accepted) where
     pub seven-exactly : (d : ℕ) → (askOf (scaleOf n) x q list .outcome ≡ Refused NoRoom d)
         ↔ ((d ≡ length (matches (question r q) (rows table))) × (length list < length (matches (question r q) (rows table))))
     unfolding askOf
@@ -74,17 +76,20 @@ module _ (n : Numbers) (x : Index) (table : List ℕ) (g : IndexOf (scaleOf n) t
         let o = given-outcome (scaleOf n) (given-fair n table x g) table x g q r is (length list) on-ruler in
         ((λ e. of-room k (length list) (sym o ∙ e)), λ h. o ∙ has-room k (length list) h)
 
--- the right ids are those of the trips that match the question
+-- the right ids are those of the trips that "satisfy it and run that day"
 pub right-ids : (q : Question) (ts : List Trip) (i : ℕ) → Mem i (answer q ts) ↔
-    ((t : Trip) × Mem t ts × T (matching q t) × (i ≡ t .id))
+    ((t : Trip) × Mem t ts × T (related (q .relationship) (q .window) t) × T (runsOn (q .day) t) × (i ≡ t .id))
 unfolding answer matches
 right-ids q ts i =
     let p = matching q in (
       (λ m.
           let a = of-ids (keep p ts) i (of-sort leb (map idOf (keep p ts)) i m) in
           let b = of-keep p ts (a .0) (a .1) in
-          (a .0, b .0, b .1, a .2)),
-      λ h. to-sort leb (map idOf (keep p ts)) i (rw (h .3) (to-ids (keep p ts) (h .0) (to-keep p ts (h .0) (h .1) (h .2)))),
+          let c = of-and (related (q .relationship) (q .window) (a .0)) (runsOn (q .day) (a .0)) (b .1) in
+          (a .0, b .0, c .0, c .1, a .2)),
+      λ h.
+          let both = to-and (related (q .relationship) (q .window) (h .0)) (runsOn (q .day) (h .0)) (h .2) (h .3) in
+          to-sort leb (map idOf (keep p ts)) i (rw (h .4) (to-ids (keep p ts) (h .0) (to-keep p ts (h .0) (h .1) both))),
     )
 
 -- ---- "Two more readings."

@@ -17,7 +17,7 @@ use Rattle.ruler.proofs.Fair.{scale-good, scale-m}
 use Rattle.trip.specs.declared.Trip.{Trip}
 use Rattle.trip.specs.declared.Asking.{Asking}
 use Rattle.layout.specs.declared.Refusal.{Refusal}
-use Rattle.layout.specs.declared.Refusal.the-variants.{RulerOutOfBounds, TableSize, DirectoryLength, OffRuler, Backward, IdTaken, NoRoom, NotAnIndex, NoRelationship, NoSuchId, NoSuchSlot}
+use Rattle.layout.specs.declared.Refusal.the-variants.{RulerOutOfBounds, TableSize, DirectoryLength, OffRuler, Backward, IdTaken, NoRoom, NotAnIndex, NoRelationship, NoSuchId, NoSuchSlot, NoDays, NoSuchDay}
 use Rattle.layout.specs.declared.Outcome.{Outcome}
 use Rattle.layout.specs.declared.Outcome.the-variants.{Accepted, Refused}
 use Rattle.layout.specs.Words.{directoryLength, partitionsHolding, Index}
@@ -87,6 +87,8 @@ no-eleven (Refused why d) e = other why e
     other NoRelationship e = omega arith
     other NoSuchId e = omega arith
     other NoSuchSlot e = omega arith
+    other NoDays e = omega arith
+    other NoSuchDay e = omega arith
 
 -- ---- 8 "directory and arenas aren't the index of any table for this ruler and these lengths (a table means one that build accepts)"
 
@@ -120,7 +122,7 @@ module _ (n : Numbers) (x : Index) where
     unfolding addOutcome rowTests rowTestsBy timeTests
     add-eight t = of-call _ (other-link _ _ 0 _ (λ e. omega arith)
         (other-link _ _ 0 _ (λ e. omega arith) (other-link _ _ 0 _ (λ e. omega arith) (other-link _ _ 0 _ (λ e. omega arith)
-        (other-link _ _ 0 _ (λ e. omega arith) (λ e. omega arith))))))
+        (other-link _ _ 0 _ (λ e. omega arith) (other-link _ _ 0 _ (λ e. omega arith) (λ e. omega arith)))))))
 
     pub remove-eight : (i : ℕ) → (removeOutcome (scaleOf n) x i ≡ Refused NotAnIndex 0) ↔ (IndexOfSome (scaleOf n) x → ⊥)
     unfolding removeOutcome
@@ -129,7 +131,7 @@ module _ (n : Numbers) (x : Index) where
     pub ask-eight : (q : Asking) (room : ℕ) → (askOutcome (scaleOf n) x q room ≡ Refused NotAnIndex 0) ↔ (IndexOfSome (scaleOf n) x → ⊥)
     unfolding askOutcome questionTests windowTests timeTests roomTest
     ask-eight q room = of-call _ (other-link _ _ 0 _ (λ e. omega arith) (other-link _ _ 0 _ (λ e. omega arith)
-        (other-link _ _ 0 _ (λ e. omega arith) (other-link _ _ _ _ (λ e. omega arith) (λ e. omega arith)))))
+        (other-link _ _ 0 _ (λ e. omega arith) (other-link _ _ 0 _ (λ e. omega arith) (other-link _ _ _ _ (λ e. omega arith) (λ e. omega arith))))))
 
     pub run-eight : (L i d : ℕ) → (runOutcome (scaleOf n) x L i d ≡ Refused NotAnIndex 0) ↔ (IndexOfSome (scaleOf n) x → ⊥)
     unfolding runOutcome

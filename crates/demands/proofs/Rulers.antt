@@ -24,6 +24,6 @@ module _ (n k : Numbers) (x : Index) (table other : List ℕ) (g : IndexOf (scal
   one-layout = sym (g .words-are) ∙ one-table .words-are
 
   -- so a question whose window both rulers have gives the same ids, and the same number where the list is too short
-  pub one-answer : (q : Asking) (list : List ℕ) → windowTests (scaleOf n) (q .window) Accepted ≡ Accepted
-      → windowTests (scaleOf k) (q .window) Accepted ≡ Accepted → askOf (scaleOf n) x q list ≡ askOf (scaleOf k) x q list
+  pub one-answer : (q : Asking) (list : List ℕ) → windowTests (scaleOf n) (q .window) (q .day) Accepted ≡ Accepted
+      → windowTests (scaleOf k) (q .window) (q .day) Accepted ≡ Accepted → askOf (scaleOf n) x q list ≡ askOf (scaleOf k) x q list
   one-answer = same-answers (scaleOf n) (scaleOf k) (given-fair n table x g) (given-fair k other x h) table other x g h

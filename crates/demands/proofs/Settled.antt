@@ -12,7 +12,7 @@ use Rattle.trip.specs.declared.Window.{Window}
 use Rattle.trip.specs.declared.Asking.{Asking}
 use Rattle.trip.specs.declared.Relationship.{Relationship}
 use Rattle.trip.specs.Relationships.{named, related}
-use Rattle.trip.specs.Trips.{tripOf, sameTrip, windowOf, askingOf}
+use Rattle.trip.specs.Trips.{tripOf, sameTrip, runsOnAny, neverRuns, windowOf, askingOf}
 use Rattle.layout.specs.declared.Refusal.{Refusal}
 use Rattle.layout.specs.declared.Outcome.{Outcome}
 use Rattle.layout.specs.Words.{Index}
@@ -59,17 +59,23 @@ pub bottom-settled : (n : Numbers) → One (bottomOf n)
 bottom-settled n = settled (bottomOf n)
 
 module _ (start end : ℕ) where
-  pub trip-settled : (id : ℕ) → One (tripOf id start end)
-  trip-settled id = settled (tripOf id start end)
+  pub trip-settled : (id days : ℕ) → One (tripOf id start end days)
+  trip-settled id days = settled (tripOf id start end days)
 
   pub window-settled : One (windowOf start end)
   window-settled = settled (windowOf start end)
 
-  pub asking-settled : (code : ℕ) → One (askingOf code start end)
-  asking-settled code = settled (askingOf code start end)
+  pub asking-settled : (code day : ℕ) → One (askingOf code start end day)
+  asking-settled code day = settled (askingOf code start end day)
 
 pub same-trip-settled : (t u : Trip) → One (sameTrip t u)
 same-trip-settled t u = settled (sameTrip t u)
+
+pub runs-settled : (days : ℕ) (t : Trip) → One (runsOnAny days t)
+runs-settled days t = settled (runsOnAny days t)
+
+pub never-settled : (t : Trip) → One (neverRuns t)
+never-settled t = settled (neverRuns t)
 
 pub relationship-settled : (code : ℕ) → One (named code)
 relationship-settled code = settled (named code)

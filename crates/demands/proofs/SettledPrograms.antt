@@ -48,14 +48,14 @@ module _ (r : NamedRuler) (x : Index) where
   pub kheyambo-check-settled : One (checkSaid (numbersNamed r) x)
   kheyambo-check-settled = settled (checkSaid (numbersNamed r) x)
 
-  pub kheyambo-add-settled : (id start end : ℕ) → OneLeft (addSaid (numbersNamed r) id start end x)
-  kheyambo-add-settled id start end = one-left (addSaid (numbersNamed r) id start end x)
+  pub kheyambo-add-settled : (id start end days : ℕ) → OneLeft (addSaid (numbersNamed r) id start end days x)
+  kheyambo-add-settled id start end days = one-left (addSaid (numbersNamed r) id start end days x)
 
   pub kheyambo-remove-settled : (id : ℕ) → OneLeft (removeSaid (numbersNamed r) id x)
   kheyambo-remove-settled id = one-left (removeSaid (numbersNamed r) id x)
 
-  pub kheyambo-ask-settled : (code start end : ℕ) (list : List ℕ) → OneHeard (askSaid (numbersNamed r) code start end x list)
-  kheyambo-ask-settled code start end list = one-heard (askSaid (numbersNamed r) code start end x list)
+  pub kheyambo-ask-settled : (code start end day : ℕ) (list : List ℕ) → OneHeard (askSaid (numbersNamed r) code start end day x list)
+  kheyambo-ask-settled code start end day list = one-heard (askSaid (numbersNamed r) code start end day x list)
 
   pub kheyambo-census-settled : OneCounted (censusSaid (numbersNamed r) x)
   kheyambo-census-settled = one-counted (censusSaid (numbersNamed r) x)

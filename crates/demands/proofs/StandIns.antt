@@ -3,33 +3,33 @@
 use mathlib.Core.Path.{_≡_, refl, sym, ap, _∙_}
 use mathlib.Core.Bool.{true, false, true≢false}
 use mathlib.Core.List.{List, [], _∷_}
-use Prim.Native.Nat.{ℕ}
+use Prim.Native.Nat.{ℕ, _*_}
 use native.Mathlib.Omega.{arith}
-use lib.ListN.{getD}
+use lib.ListN.{getD, replicate}
 use Rattle.lists.specs.Lists.{every, same, count, padded, keep, insert, sort, joined, upTo, over}
 use Rattle.ruler.specs.Ruler.{inBounds, scaleOf, cellUp, judge}
 use Rattle.trip.specs.declared.Trip.{Trip}
 use Rattle.trip.specs.Relationships.{codeOf, related}
-use Rattle.trip.specs.Trips.{tripOf}
+use Rattle.trip.specs.Trips.{tripOf, runsOn, neverRuns}
 use Rattle.layout.specs.declared.Refusal.the-variants.{NoRoom}
 use Rattle.layout.specs.declared.Outcome.the-variants.{Refused}
 use Rattle.layout.specs.Stored.{partitionsAt, firstCell, lastCell, within, holds, holdsTrip, isOriginal, isIn, subdivisionOf, isOf, belongs}
-use Rattle.layout.specs.Words.{Index, tripWords, tripAt, words, rows, partitions, directoryLength, halfLength, partitionNumber, levelOf, placeOf, slotNumber, byId, byStart, byEnd, order, slotTrips, slot, entriesBefore, entries, directoryHalf, arena, lengthsOf, layout}
+use Rattle.layout.specs.Words.{entryWords, Index, tripWords, tripAt, words, rows, partitions, directoryLength, halfLength, partitionNumber, levelOf, placeOf, slotNumber, byId, byStart, byEnd, order, slotTrips, slot, entriesBefore, entries, directoryHalf, arena, lengthsOf, layout}
 use Rattle.layout.specs.Answers.{matches, answer, answerBy, answerTo, subdivisionNumber, subdivisionNumbered, levelCount, levelRow, census, halfOf, isAft, runWords, runFrom}
-use Rattle.layout.specs.Refusals.{isAccepted, refuse, outOfBounds, badSize, full, badDirectory, offRuler, backward, hasId, noRoom, exceeds, noSuchCode, noSuchSlot, timeTests, rowTestsBy, rowTests, firstBadRow, buildOutcome, tableOf, sameIndex, gives, isIndex, indexTests, addOutcome, removeOutcome, windowTests, questionTests, roomTest, askOutcome, runOutcome, checkOutcome}
+use Rattle.layout.specs.Refusals.{isAccepted, refuse, outOfBounds, badSize, full, badDirectory, offRuler, backward, hasId, noRoom, exceeds, noSuchCode, noSuchSlot, noSuchDay, timeTests, rowTestsBy, rowTests, firstBadRow, buildOutcome, tableOf, sameIndex, gives, isIndex, indexTests, addOutcome, removeOutcome, windowTests, questionTests, roomTest, askOutcome, runOutcome, checkOutcome}
 use Rattle.layout.specs.Calls.{After, Asked, index, ifAccepted, leaving, buildOf, addOf, without, removeOf, askOf, noCensus, censusOf, runOf, runFromOf}
 use Rattle.demands.specs.StandIns.{ruler, all-of, accepted, listed, OnlyOk, RightOnce}
 
--- ---- the calls: an empty index with room for two trips, and two trips
+-- ---- the calls: an empty index with room for two trips, and two trips, which run on day 0
 
 abbrev empty : Index
-empty = index (0 ∷ 0 ∷ 0 ∷ 0 ∷ 0 ∷ 0 ∷ []) (0 ∷ 0 ∷ 0 ∷ 0 ∷ 0 ∷ 0 ∷ []) []
+empty = index (0 ∷ 0 ∷ 0 ∷ 0 ∷ 0 ∷ 0 ∷ []) (replicate (2 * entryWords) 0) []
 
 abbrev five : Trip
-five = tripOf 5 0 1
+five = tripOf 5 0 1 1
 
 abbrev seven : Trip
-seven = tripOf 7 1 1
+seven = tripOf 7 1 1 1
 
 unfoldable with-five : Index
 with-five = addOf ruler empty five .words
@@ -55,8 +55,8 @@ record Computed : Type 0 where
   adds-five : accepted (addOf ruler empty five) ≡ true
   five-is-there : getD (with-five .originals) 0 0 ≡ 5
   adds-seven : accepted (addOf ruler with-five seven) ≡ true
-  seven-is-not : getD (with-five .originals) 3 0 ≡ 0
-  seven-is-there : getD (with-both .originals) 3 0 ≡ 7
+  seven-is-not : getD (with-five .originals) entryWords 0 ≡ 0
+  seven-is-there : getD (with-both .originals) entryWords 0 ≡ 7
   takes-five : accepted (removeOf ruler with-both 5) ≡ true
   five-in-front : getD (with-both .originals) 0 0 ≡ 5
   seven-in-front : getD (removeOf ruler with-both 5 .words .originals) 0 0 ≡ 7
@@ -69,7 +69,7 @@ unfolding with-five with-seven with-both every same count padded keep insert sor
     partitions directoryLength halfLength partitionNumber levelOf placeOf slotNumber byId byStart byEnd order slotTrips slot entriesBefore entries
     directoryHalf arena lengthsOf layout matches answer answerBy answerTo over subdivisionNumber subdivisionNumbered levelCount levelRow census halfOf isAft
     runWords runFrom isAccepted refuse outOfBounds badSize full badDirectory offRuler backward hasId noRoom exceeds noSuchCode
-    noSuchSlot timeTests rowTestsBy rowTests firstBadRow buildOutcome tableOf sameIndex gives isIndex indexTests addOutcome removeOutcome windowTests
+    noSuchSlot noSuchDay runsOn neverRuns timeTests rowTestsBy rowTests firstBadRow buildOutcome tableOf sameIndex gives isIndex indexTests addOutcome removeOutcome windowTests
     questionTests roomTest askOutcome runOutcome checkOutcome ifAccepted leaving buildOf addOf without removeOf askOf noCensus censusOf runOf runFromOf
 computed = record {
   build-accepts = refl;
@@ -167,7 +167,7 @@ module _ (add : Index → Trip → After) (meets : (x : Index) (t : Trip) → ad
   unfolding with-five with-both
   no-addition-right-once idles =
       let same = idle-later add (addOf ruler) meets idles empty five seven (computed .adds-seven) in
-      omega (arith, ap (λ (x : Index). getD (x .originals) 3 0) same, computed .seven-is-not, computed .seven-is-there)
+      omega (arith, ap (λ (x : Index). getD (x .originals) entryWords 0) same, computed .seven-is-not, computed .seven-is-there)
 
 module _ (remove : Index → (id : ℕ) → After) (meets : (x : Index) (i : ℕ) → remove x i ≡ removeOf ruler x i) where
   pub no-removal-only-says-ok : OnlyOk remove → ⊥

@@ -16,9 +16,9 @@ use Rattle.layout.specs.Calls.{After, Asked, askOf}
 abbrev pub ruler : Scale
 ruler = scaleOf (numbersOf 1 0)
 
--- the question for all trips of an index; and the ids that a question lists
+-- the question for all trips of an index that run on day 0; and the ids that a question lists
 abbrev pub all-of : Index → (list : List ℕ) → Asked
-all-of x list = askOf ruler x (askingOf (codeOf GOverlaps) 0 1) list
+all-of x list = askOf ruler x (askingOf (codeOf GOverlaps) 0 1 0) list
 
 abbrev pub listed : Asked → List ℕ
 listed a = take (a .count) (a .answers)

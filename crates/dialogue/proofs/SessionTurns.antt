@@ -161,9 +161,9 @@ keeps s (Ruler w m) h = go (s .desk .started || ltb deepestHere m) refl
         → bottomOf (cond t (badLine s) (opened s (numbersOf w m)) .next .desk .numbers) ≤ deepestHere
     go true e = h
     go false e = not-deeper (s .desk .started) m e
-keeps s (Add i st end) h = whenever s _ h h
+keeps s (Add i st end days) h = whenever s _ h h
 keeps s (Remove i) h = whenever s _ h h
-keeps s (Ask c st end) h = whenever s _ h h
+keeps s (Ask c st end day) h = whenever s _ h h
 
 pub done-keeps : (s : State) (c : Command) {r : Turned} {x : Index} {answers reply₀ reply : List ℕ} → Done (turnOf s c) r x answers reply₀ reply
     → bottomOf (s .desk .numbers) ≤ deepestHere → bottomOf (r .desk .numbers) ≤ deepestHere

@@ -94,7 +94,8 @@ answered s a = record {
   goesOn = true;
 }
 
--- "T id st end to add, X id to remove, Q code st end", each in the index of the session's ruler
+-- "T id st end to add, X id to remove, Q code st end", with T-07: "In the session T and Q take one number more, last"; each in the index of
+-- the session's ruler
 abbrev pub added : State → Trip → Turn
 added s t = edited s (addOf (scaleOf (s .desk .numbers)) (shown (s .desk .numbers) (s .words)) t)
 
@@ -112,9 +113,9 @@ whenOpen s t = cond (s .desk .started) t (badLine s)
 unfoldable pub turnOf : State → Command → Turn
 turnOf s Bad = badLine s
 turnOf s (Ruler w m) = cond (s .desk .started || ltb deepestHere m) (badLine s) (opened s (numbersOf w m))
-turnOf s (Add i st end) = whenOpen s (added s (tripOf i st end))
+turnOf s (Add i st end days) = whenOpen s (added s (tripOf i st end days))
 turnOf s (Remove i) = whenOpen s (removed s i)
-turnOf s (Ask c st end) = whenOpen s (questioned s (askingOf c st end))
+turnOf s (Ask c st end day) = whenOpen s (questioned s (askingOf c st end day))
 
 -- The whole session: what is written for the lines, one after another, until one ends it.
 unfoldable pub writesFor : State → List (List ℕ) → List ℕ

@@ -203,6 +203,7 @@ fn add_line(
     id: u32,
     start: u32,
     end: u32,
+    days: u32,
     directory: &mut [u32],
     originals: &mut [u32],
     replicas: &mut [u32],
@@ -211,14 +212,14 @@ fn add_line(
     requires { ⌜ Room (desk .numbers) (now directory) (now reply) ⌝ }
     ensures { λ r.
         ⌜ ((l : List ℕ) → Done
-        (turnOf (state desk (index (now (directory .entry)) (now (originals .entry)) (now (replicas .entry))) l) (Add id start end)) r
+        (turnOf (state desk (index (now (directory .entry)) (now (originals .entry)) (now (replicas .entry))) l) (Add id start end days)) r
         (index (now (directory .exit)) (now (originals .exit)) (now (replicas .exit))) l
         (now (reply .entry)) (now (reply .exit))) ⌝ }
 {
     if !desk.started {
         return bad_turn(desk, reply);
     }
-    let t = Trip::of(id, start, end);
+    let t = Trip::of(id, start, end, days);
     add_turn(desk, t, directory, originals, replicas, reply)
 }
 
@@ -250,6 +251,7 @@ fn ask_line<'a>(
     code: u32,
     start: u32,
     end: u32,
+    day: u32,
     directory: &[u32],
     originals: &'a [u32],
     replicas: &'a [u32],
@@ -260,14 +262,14 @@ fn ask_line<'a>(
     ensures { λ r.
         ⌜ Done
         (turnOf (state desk (index (now (directory .entry)) (now (originals .entry)) (now (replicas .entry))) (now (answers .entry)))
-        (Ask code start end)) r
+        (Ask code start end day)) r
         (index (now (directory .entry)) (now (originals .entry)) (now (replicas .entry))) (now (answers .exit))
         (now (reply .entry)) (now (reply .exit)) ⌝ }
 {
     if !desk.started {
         return bad_turn(desk, reply);
     }
-    let asking = Asking::of(code, start, end);
+    let asking = Asking::of(code, start, end, day);
     ask_turn(desk, asking, directory, originals, replicas, answers, reply)
 }
 
@@ -293,15 +295,36 @@ pub fn turn(
     match command {
         Command::Bad => bad_turn(desk, reply),
         Command::Ruler { w, m } => { open_line(desk, w, m, directory, originals, replicas, reply) }
-        Command::Add { id, start, end } => {
-            add_line(desk, id, start, end, directory, originals, replicas, reply)
+        Command::Add {
+            id,
+            start,
+            end,
+            days,
+        } => {
+            add_line(
+                desk,
+                id,
+                start,
+                end,
+                days,
+                directory,
+                originals,
+                replicas,
+                reply,
+            )
         }
         Command::Remove { id } => { remove_line(desk, id, directory, originals, replicas, reply) }
-        Command::Ask { code, start, end } => ask_line(
+        Command::Ask {
+            code,
+            start,
+            end,
+            day,
+        } => ask_line(
             desk,
             code,
             start,
             end,
+            day,
             directory,
             originals,
             replicas,

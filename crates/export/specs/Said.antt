@@ -78,14 +78,14 @@ buildSaid n table x = leftOf (buildOf (scaleOf n) table x)
 unfoldable pub checkSaid : Numbers → Index → Said
 checkSaid n x = saidOf (checkOutcome (scaleOf n) x)
 
-unfoldable pub addSaid : Numbers → (id start end : ℕ) → Index → Left
-addSaid n i s e x = leftOf (addOf (scaleOf n) x (tripOf i s e))
+unfoldable pub addSaid : Numbers → (id start end days : ℕ) → Index → Left
+addSaid n i s e y x = leftOf (addOf (scaleOf n) x (tripOf i s e y))
 
 unfoldable pub removeSaid : Numbers → (id : ℕ) → Index → Left
 removeSaid n i x = leftOf (removeOf (scaleOf n) x i)
 
-unfoldable pub askSaid : Numbers → (code start end : ℕ) → Index → (answers : List ℕ) → Heard
-askSaid n c s e x l = toldOf (askOf (scaleOf n) x (askingOf c s e) l)
+unfoldable pub askSaid : Numbers → (code start end day : ℕ) → Index → (answers : List ℕ) → Heard
+askSaid n c s e y x l = toldOf (askOf (scaleOf n) x (askingOf c s e y) l)
 
 -- a census: the number, and the eleven rows of four counts
 pub record Counted : Type 0 where

@@ -157,15 +157,16 @@ pub extern "C" fn kheyambo_add(
     id: u32,
     start: u32,
     end: u32,
+    days: u32,
     directory: &mut [u32],
     originals: &mut [u32],
     replicas: &mut [u32],
 ) -> Said
     ensures { λ r.
         ⌜ left r (index (now (directory .exit)) (now (originals .exit)) (now (replicas .exit)))
-        ≡ addSaid (numbersNamed ruler) id start end (index (now (directory .entry)) (now (originals .entry)) (now (replicas .entry))) ⌝ }
+        ≡ addSaid (numbersNamed ruler) id start end days (index (now (directory .entry)) (now (originals .entry)) (now (replicas .entry))) ⌝ }
 {
-    let t = Trip::of(id, start, end);
+    let t = Trip::of(id, start, end, days);
     in_numbers(edit::add(numbers_named(ruler), directory, originals, replicas, t))
 }
 
@@ -190,6 +191,7 @@ pub extern "C" fn kheyambo_ask<'a>(
     code: u32,
     start: u32,
     end: u32,
+    day: u32,
     directory: &[u32],
     originals: &'a [u32],
     replicas: &'a [u32],
@@ -197,9 +199,9 @@ pub extern "C" fn kheyambo_ask<'a>(
 ) -> Told
     ensures { λ r.
         ⌜ told r (now (answers .exit))
-        ≡ askSaid (numbersNamed ruler) code start end (index (now (directory .entry)) (now (originals .entry)) (now (replicas .entry))) (now (answers .entry)) ⌝ }
+        ≡ askSaid (numbersNamed ruler) code start end day (index (now (directory .entry)) (now (originals .entry)) (now (replicas .entry))) (now (answers .entry)) ⌝ }
 {
-    let asking = Asking::of(code, start, end);
+    let asking = Asking::of(code, start, end, day);
     let answered = ask::ask(
         numbers_named(ruler),
         directory,

@@ -2,6 +2,7 @@
 use dialogue::Desk;
 use dialogue::turn;
 use ruler::Numbers;
+use text::LONGEST_LINE;
 ghost use mathlib.Core.Path.{_≡_};
 ghost use mathlib.Core.Bool.{true};
 ghost use mathlib.Core.List.{List, []};
@@ -15,8 +16,8 @@ ghost use Rattle.feeding.specs.Feeding.{held, lineDone, leaving, byteKep
 // The byte between lines.
 const NEWLINE: u8 = b'\n';
 
-// What is kept of a line. No line that means something is longer, and a longer one is malformed however it goes on.
-const LINE: usize = 35;
+// What is kept of a line: a byte more than the longest that means something has. A longer one is malformed however it goes on.
+const LINE: usize = LONGEST_LINE + 1;
 
 // The longest answer: a count and 256 ids.
 const REPLY: usize = 2848;

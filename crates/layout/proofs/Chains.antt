@@ -13,13 +13,14 @@ use Rattle.ruler.specs.declared.Time.{Time}
 use Rattle.ruler.specs.Ruler.{Scale, mostTrips, noLater, spans}
 use Rattle.trip.specs.declared.Trip.{Trip}
 use Rattle.trip.specs.declared.Window.{Window}
+use Rattle.trip.specs.Trips.{lastDay, neverRuns}
 use Rattle.layout.specs.declared.Half.the-variants.{Originals, Replicas}
 use Rattle.layout.specs.declared.Refusal.{Refusal}
-use Rattle.layout.specs.declared.Refusal.the-variants.{OffRuler, Backward, NoRoom}
+use Rattle.layout.specs.declared.Refusal.the-variants.{OffRuler, Backward, NoRoom, NoSuchDay}
 use Rattle.layout.specs.declared.Outcome.{Outcome}
 use Rattle.layout.specs.declared.Outcome.the-variants.{Accepted, Refused}
 use Rattle.layout.specs.Words.{entryWords, directoryLength, entries, Lengths}
-use Rattle.layout.specs.Refusals.{refuse, isAccepted, outOfBounds, badSize, badDirectory, offRuler, backward, hasId, noRoom, exceeds, timeTests, windowTests, roomTest, onRuler, OnRuler, fits, Fits}
+use Rattle.layout.specs.Refusals.{refuse, isAccepted, outOfBounds, badSize, badDirectory, offRuler, backward, hasId, noRoom, exceeds, noSuchDay, timeTests, windowTests, roomTest, onRuler, OnRuler, fits, Fits}
 
 -- ---- one link
 
@@ -133,15 +134,18 @@ by-spans s a b =
 -- a trip by itself
 pub of-fits : (s : Scale) (t : Trip) → T (fits s t) → Fits s t
 unfolding fits
-of-fits s t h = record { times = of-onRuler s (t .start) (t .end) h }
+of-fits s t h =
+    let w = of-and (onRuler s (t .start) (t .end)) (not (neverRuns t)) h in
+    record { times = of-onRuler s (t .start) (t .end) (w .0); runs = w .1 }
 
-pub fits-said : (s : Scale) (t : Trip) {a : Bool} → a ≡ spans s (t .start) (t .end) → a ≡ fits s t
+pub fits-said : (s : Scale) (t : Trip) {a b : Bool} → a ≡ spans s (t .start) (t .end) → b ≡ neverRuns t → (a && not b) ≡ fits s t
 unfolding fits
-fits-said s t e = e ∙ by-spans s (t .start) (t .end)
+fits-said s t e f = rw (e, f, by-spans s (t .start) (t .end))
 
 pub to-fits : (s : Scale) (t : Trip) → Fits s t → T (fits s t)
 unfolding fits
-to-fits s t f = to-onRuler s (t .start) (t .end) (f .times)
+to-fits s t f =
+    to-and (onRuler s (t .start) (t .end)) (not (neverRuns t)) (to-onRuler s (t .start) (t .end) (f .times)) (f .runs)
 
 -- the chain of both, by what the code found of each time
 pub off-said : (s : Scale) (start end : Time) {a b : Bool} (v : Bool) → a ≡ s .has start → b ≡ s .has end → not (a && b) ≡ v
@@ -208,20 +212,31 @@ pub of-room : (n room : ℕ) → roomTest n room ≡ Accepted → n ≤ room
 unfolding roomTest exceeds
 of-room n room e = nltb→le room n (refuse-no _ NoRoom n Accepted e .0)
 
--- ---- 9, 4 and 5 of a question
+-- ---- 4, 5 and 17 of a question
 
-pub window-pass : (s : Scale) (w : Window) (rest : Outcome) → windowTests s w Accepted ≡ Accepted → windowTests s w rest ≡ rest
-unfolding windowTests
-window-pass s w rest e = times-pass s (w .start) (w .end) 0 rest (times-on s (w .start) (w .end) 0 Accepted e)
+pub window-on : (s : Scale) (w : Window) (day : ℕ) (rest : Outcome) → windowTests s w day rest ≡ Accepted
+    → OnRuler s (w .start) (w .end) × (day ≤ lastDay)
+unfolding windowTests noSuchDay
+window-on s w day rest e =
+    let on = times-on s (w .start) (w .end) 0 _ e in
+    let c = refuse-no _ _ 0 _ (sym (times-pass s (w .start) (w .end) 0 _ on) ∙ e) in
+    (on, nltb→le lastDay day (c .0))
+
+pub window-pass : (s : Scale) (w : Window) (day : ℕ) (rest : Outcome) → windowTests s w day Accepted ≡ Accepted → windowTests s w day rest ≡ rest
+unfolding windowTests noSuchDay
+window-pass s w day rest e =
+    let on = window-on s w day Accepted e in
+    times-pass s (w .start) (w .end) 0 _ (on .0) ∙ refuse-pass _ _ 0 _ (le→nltb lastDay day (on .1))
 
 -- a refusal of the window's stands for every rest, with detail 0
-pub window-refused : (s : Scale) (w : Window) (why : Refusal) (d : ℕ) (rest : Outcome) → windowTests s w Accepted ≡ Refused why d
-    → windowTests s w rest ≡ Refused why 0
+pub window-refused : (s : Scale) (w : Window) (day : ℕ) (why : Refusal) (d : ℕ) (rest : Outcome) → windowTests s w day Accepted ≡ Refused why d
+    → windowTests s w day rest ≡ Refused why 0
 unfolding windowTests timeTests refuse
-window-refused s w why d rest e = go (offRuler s (w .start) (w .end)) (backward (w .start) (w .end)) e
+window-refused s w day why d rest e = go (offRuler s (w .start) (w .end)) (backward (w .start) (w .end)) (noSuchDay day) e
   where
-    go : (a b : Bool) → refuse a OffRuler 0 (refuse b Backward 0 Accepted) ≡ Refused why d
-        → refuse a OffRuler 0 (refuse b Backward 0 rest) ≡ Refused why 0
-    go true b q = let p : OffRuler ≡ why = cc in rw p
-    go false true q = let p : Backward ≡ why = cc in rw p
-    go false false q = refused-not why d (sym q)
+    go : (a b c : Bool) → refuse a OffRuler 0 (refuse b Backward 0 (refuse c NoSuchDay 0 Accepted)) ≡ Refused why d
+        → refuse a OffRuler 0 (refuse b Backward 0 (refuse c NoSuchDay 0 rest)) ≡ Refused why 0
+    go true b c q = let p : OffRuler ≡ why = cc in rw p
+    go false true c q = let p : Backward ≡ why = cc in rw p
+    go false false true q = let p : NoSuchDay ≡ why = cc in rw p
+    go false false false q = refused-not why d (sym q)

@@ -6,6 +6,7 @@ use Prim.Native.Nat.{ℕ, suc, _*_}
 use lib.Dec.{leb}
 use lib.ListN.{length, length-map}
 use Rattle.lists.specs.Lists.{keep, joined, upTo, over}
+use Rattle.lists.proofs.Kept.{keep-both}
 use Rattle.lists.proofs.Members.{In, length-sort}
 use Rattle.ruler.specs.Ruler.{Scale, deepest}
 use Rattle.ruler.proofs.Fair.{Fair}
@@ -14,7 +15,8 @@ use Rattle.trip.specs.declared.Asking.{Asking}
 use Rattle.trip.specs.declared.Question.{Question}
 use Rattle.trip.specs.declared.Relationship.{Relationship}
 use Rattle.trip.specs.declared.Named.the-variants.{As}
-use Rattle.trip.specs.Relationships.{named, holdsBy, codeHolds}
+use Rattle.trip.specs.Relationships.{named, related, holdsBy, codeHolds}
+use Rattle.trip.specs.Trips.{runsOn}
 use Rattle.trip.proofs.Naming.{named-within}
 use Rattle.layout.specs.declared.Half.{Half}
 use Rattle.layout.specs.declared.Subdivision.{Subdivision}
@@ -25,7 +27,7 @@ use Rattle.layout.specs.Words.{entryWords, rows, words, slotNumber, slot
 use Rattle.layout.specs.Answers.{matches, answer, question, answerBy, answerTo, levelCount, levelRow, census, halfOf, isAft, runWords, runFrom}
 use Rattle.layout.specs.Refusals.{OnRuler, IndexOf, tableOf, noSuchCode, windowTests, questionTests, roomTest, askOutcome}
 use Rattle.layout.specs.Calls.{Asked, asked, ifAccepted, askOf}
-use Rattle.layout.proofs.Chains.{refuse-no, refuse-pass, times-on, window-pass}
+use Rattle.layout.proofs.Chains.{refuse-no, refuse-pass, window-on, window-pass}
 use Rattle.layout.proofs.RowOrder.{Distinct, slotTrips-same, before-same, entries-same, length-same}
 use Rattle.layout.proofs.Indexes.{given-table, given-indexed}
 use Rattle.layout.proofs.SortedLists.{idOf, answer-same}
@@ -59,12 +61,11 @@ pub answer-count : (q : Question) (ts : List Trip) → length (answer q ts) ≡ 
 unfolding answer
 answer-count q ts = length-sort leb (map idOf (matches q ts)) ∙ length-map (matches q ts) idOf
 
--- an accepted question has passed 4 and 5
+-- an accepted question has passed 4, 5 and 17
 pub asked-on-ruler : (s : Scale) (x : Index) (q : Asking) (room : ℕ) → askOutcome s x q room ≡ Accepted
     → OnRuler s (q .window .start) (q .window .end)
-unfolding askOutcome questionTests windowTests
-asked-on-ruler s x q room e =
-    times-on s (q .window .start) (q .window .end) 0 _ (refuse-no _ _ 0 _ (of-indexTests s x _ e .1) .1)
+unfolding askOutcome questionTests
+asked-on-ruler s x q room e = window-on s (q .window) (q .day) _ (refuse-no _ _ 0 _ (of-indexTests s x _ e .1) .1) .0
 
 -- ---- a table that gives the words, and the trips that are read off them
 
@@ -96,20 +97,20 @@ module _ (s : Scale) (fair : Fair s) (table : List ℕ) (x : Index) (g : IndexOf
   pub given-run-from : (L i : ℕ) (d : Subdivision) → runFrom s (tableOf s x) L i d ≡ runFrom s (rows table) L i d
   given-run-from L i d = of-the-two (λ (ts : List Trip). runFrom s ts L i d) (λ ts us n e f b. runFrom-same s ts us n e f b L i d)
 
-  -- a question whose window is on the ruler, and not backward
+  -- a question whose window is on the ruler, and not backward, and whose day trips can have
   module _ (q : Asking) (r : Relationship) (is : named (q .code) ≡ As r) where
     given-ids : answerTo q (tableOf s x) ≡ answer (question r q) (rows table)
     unfolding answerTo answerBy
     given-ids = rw is (given-answer (question r q))
 
     -- 7 decides, by the matches of the table
-    pub given-outcome : (room : ℕ) → windowTests s (q .window) Accepted ≡ Accepted
+    pub given-outcome : (room : ℕ) → windowTests s (q .window) (q .day) Accepted ≡ Accepted
         → askOutcome s x q room ≡ roomTest (length (matches (question r q) (rows table))) room
     unfolding askOutcome questionTests noSuchCode
     given-outcome room ok =
         to-indexTests s x _ (given-indexed s fair table x g)
         ∙ refuse-pass _ _ 0 _ (rw (named-within (q .code) is) tt)
-        ∙ window-pass s (q .window) _ ok
+        ∙ window-pass s (q .window) (q .day) _ ok
         ∙ ap (λ (k : ℕ). roomTest k room) (ap length given-ids ∙ answer-count (question r q) (rows table))
 
     -- and an accepted question lists them
@@ -118,8 +119,10 @@ module _ (s : Scale) (fair : Fair s) (table : List ℕ) (x : Index) (g : IndexOf
     unfolding askOf ifAccepted
     given-asked list e = rw (e, given-ids)
 
-    -- as many as what its code names holds of
+    -- as many as what its code names holds of, of those that run that day
     pub given-count : (list : List ℕ) → askOutcome s x q (length list) ≡ Accepted → askOf s x q list .count
-        ≡ length (keep (codeHolds (q .code) (q .window)) (rows table))
+        ≡ length (keep (codeHolds (q .code) (q .window)) (keep (runsOn (q .day)) (rows table)))
     unfolding matches holdsBy
-    given-count list e = ap (λ (a : Asked). a .count) (given-asked list e) ∙ answer-count (question r q) (rows table) ∙ rw is
+    given-count list e =
+        ap (λ (a : Asked). a .count) (given-asked list e) ∙ answer-count (question r q) (rows table)
+        ∙ rw is (ap length (keep-both (related r (q .window)) (runsOn (q .day)) (rows table)))

@@ -88,7 +88,7 @@ module _ (s : Scale) (fair : Fair s) (table : List ℕ) (x : Index) (g : IndexOf
 -- ---- a question to the index that a build has left, whatever the buffers
 
 pub built-asked : (n : Numbers) (ts : List Trip) (r : Relationship) (a : Asking) (ids : List ℕ) → named (a .code) ≡ As r
-    → windowTests (scaleOf n) (a .window) Accepted ≡ Accepted → answer (question r a) ts ≡ ids → (x : Index) (list : List ℕ)
+    → windowTests (scaleOf n) (a .window) (a .day) Accepted ≡ Accepted → answer (question r a) ts ≡ ids → (x : Index) (list : List ℕ)
     → buildOf (scaleOf n) (words ts) x .outcome ≡ Accepted → length ids ≤ length list
     → askOf (scaleOf n) (buildOf (scaleOf n) (words ts) x .words) a list ≡ asked Accepted (length ids) (over ids list)
 built-asked n ts r a ids is on-ruler right x list e room =

@@ -65,7 +65,7 @@ time-then s start end k rest = link _ _ k _ _ rest (link _ _ k rest Accepted res
 pub row-then : (s : Scale) (there : List Trip) (t : Trip) (k : ℕ) (rest : Outcome)
     → rowTests s there t k rest ≡ andThen (rowTests s there t k Accepted) rest
 unfolding rowTests rowTestsBy timeTests ifAccepted
-row-then s there t k rest = link _ _ k _ _ rest (link _ _ k _ _ rest (link _ _ k rest Accepted rest refl))
+row-then s there t k rest = link _ _ k _ _ rest (link _ _ k _ _ rest (link _ _ k _ _ rest (link _ _ k rest Accepted rest refl)))
 
 -- 1, 3, 8: the check of the index, then the rest of a call's chain
 pub index-then : (s : Scale) (x : Index) (rest : Outcome) → indexTests s x rest ≡ andThen (checkOutcome s x) rest

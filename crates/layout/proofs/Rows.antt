@@ -27,7 +27,8 @@ unfolding tripWords tripAt
 first-row [] h = absurd (omega arith)
 first-row (a ∷ []) h = absurd (omega arith)
 first-row (a ∷ b ∷ []) h = absurd (omega arith)
-first-row (a ∷ b ∷ c ∷ l) h = refl
+first-row (a ∷ b ∷ c ∷ []) h = absurd (omega arith)
+first-row (a ∷ b ∷ c ∷ d ∷ l) h = refl
 
 -- a trip is read at k as its words stand from entryWords × k on
 tripAt-from : (l k : List ℕ) (i j : ℕ) → ((n : ℕ) → getD l (entryWords * i + n) 0 ≡ getD k (entryWords * j + n) 0) → tripAt l i ≡ tripAt k j
@@ -35,7 +36,7 @@ unfolding tripAt
 tripAt-from l k i j h =
     let zero-more : (x : ℕ) → x + 0 ≡ x = λ x. omega arith in
     let first : getD l (entryWords * i) 0 ≡ getD k (entryWords * j) 0 = simp zero-more at (h 0) in
-    rw (first, h 1, h 2)
+    rw (first, h 1, h 2, h 3)
 
 pub words-some : 1 ≤ entryWords
 words-some = omega arith

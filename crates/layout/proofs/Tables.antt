@@ -17,7 +17,7 @@ use Rattle.layout.proofs.Chains.{Sized, Room, refuse-no, refuse-pass, o
 
 -- ---- one row
 
--- a trip that passes tests 4, 5 and 6 beside those that are there
+-- a trip that passes tests 4, 5, 6 and 16 beside those that are there
 pub record RowOk (s : Scale) (beside : List Trip) (t : Trip) : Type 0 where
   pub fits : Fits s t
   pub fresh : (u : Trip) → Mem u beside → u .id ≡ t .id → ⊥
@@ -28,13 +28,15 @@ unfolding rowTests rowTestsBy
 of-rowTests s beside t k rest e =
     let on = times-on s (t .start) (t .end) k _ e in
     let c = refuse-no _ _ k _ (sym (times-pass s (t .start) (t .end) k _ on) ∙ e) in
-    (record { fits = record { times = on }; fresh = of-hasId (t .id) beside (c .0) }, c .1)
+    let d = refuse-no _ _ k _ (c .1) in
+    (record { fits = record { times = on; runs = d .0 }; fresh = of-hasId (t .id) beside (c .0) }, d .1)
 
 pub to-rowTests : (s : Scale) (beside : List Trip) (t : Trip) (k : ℕ) (rest : Outcome) → RowOk s beside t → rowTests s beside t k rest ≡ rest
 unfolding rowTests rowTestsBy
 to-rowTests s beside t k rest w =
     times-pass s (t .start) (t .end) k _ (w .fits .times)
     ∙ refuse-pass _ _ k _ (to-hasId (t .id) beside (w .fresh))
+    ∙ refuse-pass _ _ k _ (w .fits .runs)
 
 -- ---- all rows
 

@@ -41,11 +41,11 @@ one-bottom m n e = go (decLt m n) (decLt n m)
     go (no h) (no g) = omega arith
 
 -- a question whose window a ruler has, to an index of it: what is left to be tested is the same under each
-outcome : (s : Scale) {x : Index} → Indexed s x → (q : Asking) → windowTests s (q .window) Accepted ≡ Accepted → (room : ℕ)
+outcome : (s : Scale) {x : Index} → Indexed s x → (q : Asking) → windowTests s (q .window) (q .day) Accepted ≡ Accepted → (room : ℕ)
     → askOutcome s x q room ≡ refuse (noSuchCode (q .code)) NoRelationship 0 (roomTest (length (answerTo q (tableOf s x))) room)
 unfolding askOutcome questionTests
 outcome s {x = x} h q on room =
-    to-indexTests s x _ h ∙ ap (refuse (noSuchCode (q .code)) NoRelationship 0) (window-pass s (q .window) (roomTest (length (answerTo q (tableOf s x))) room) on)
+    to-indexTests s x _ h ∙ ap (refuse (noSuchCode (q .code)) NoRelationship 0) (window-pass s (q .window) (q .day) (roomTest (length (answerTo q (tableOf s x))) room) on)
 
 module _ (s k : Scale) (fair : Fair s) (fair-too : Fair k) (table other : List ℕ) (x : Index) (g : IndexOf s table x) (h : IndexOf k other x) where
   under : Indexed s x
@@ -98,7 +98,7 @@ module _ (s k : Scale) (fair : Fair s) (fair-too : Fair k) (table other : List �
       (built-left k table x (ap (λ (a : After). a .outcome) built) .is-index)
 
   -- a question whose window both rulers have
-  pub same-answers : (q : Asking) (list : List ℕ) → windowTests s (q .window) Accepted ≡ Accepted → windowTests k (q .window) Accepted ≡ Accepted
+  pub same-answers : (q : Asking) (list : List ℕ) → windowTests s (q .window) (q .day) Accepted ≡ Accepted → windowTests k (q .window) (q .day) Accepted ≡ Accepted
       → askOf s x q list ≡ askOf k x q list
   unfolding askOf
   same-answers q list a b =

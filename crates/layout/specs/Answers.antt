@@ -1,5 +1,5 @@
 -- Document 01, "Relationships", what a question, the census and a run of a table give, as definitions.
-use mathlib.Core.Bool.{Bool, true, false, cond}
+use mathlib.Core.Bool.{Bool, true, false, cond, _&&_}
 use mathlib.Core.List.{List, [], _∷_, map}
 use Prim.Native.Nat.{ℕ, suc, _*_}
 use lib.Dec.{leb}
@@ -13,6 +13,7 @@ use Rattle.trip.specs.declared.Relationship.{Relationship}
 use Rattle.trip.specs.declared.Named.{Named}
 use Rattle.trip.specs.declared.Named.the-variants.{As, Nothing}
 use Rattle.trip.specs.Relationships.{named, related}
+use Rattle.trip.specs.Trips.{runsOn}
 use Rattle.layout.specs.declared.Half.{Half}
 use Rattle.layout.specs.declared.Half.the-variants.{Originals, Replicas}
 use Rattle.layout.specs.declared.Subdivision.{Subdivision}
@@ -20,10 +21,10 @@ use Rattle.layout.specs.declared.Subdivision.the-variants.{OIn, OAft, RI
 use Rattle.layout.specs.Stored.{partitionsAt}
 use Rattle.layout.specs.Words.{entryWords, slotTrips, slotNumber, entriesBefore, words}
 
--- "A question is a window together with one named relationship." Whether a trip matches it, the trips of a table that do, and "the ids in
--- ascending order"
+-- "A question is a window together with one named relationship", and T-07: "each question a day". Whether a trip matches it ("satisfy it and run that
+-- day"), the trips of a table that do, and "the ids in ascending order"
 abbrev pub matching : Question → Trip → Bool
-matching q = related (q .relationship) (q .window)
+matching q t = related (q .relationship) (q .window) t && runsOn (q .day) t
 
 unfoldable pub matches : Question → List Trip → List Trip
 matches q ts = keep (matching q) ts
@@ -33,7 +34,7 @@ answer q ts = ascending (map (λ (t : Trip). t .id) (matches q ts))
 
 -- a question as it is put, judged by what its code names; a code that names nothing lists nothing
 abbrev pub question : Relationship → Asking → Question
-question r q = record { window = q .window; relationship = r }
+question r q = record { window = q .window; relationship = r; day = q .day }
 
 unfoldable pub answerBy : Named → Asking → List Trip → List ℕ
 answerBy (As r) q ts = answer (question r q) ts

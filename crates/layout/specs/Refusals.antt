@@ -1,5 +1,5 @@
 -- Document 01, "Numbers of refusal", as definitions: the numbers, when each is given, and the order of each call; without number 11, which document
--- 02 struck (T-06). Every test is a Bool and computes.
+-- 02 struck (T-06), and with 16 and 17, which it added (T-07). Every test is a Bool and computes.
 use mathlib.Core.Path.{_≡_}
 use mathlib.Core.Bool.{Bool, true, false, not, _&&_, _||_}
 use mathlib.Core.List.{List, [], _∷_}
@@ -13,9 +13,10 @@ use Rattle.trip.specs.declared.Trip.{Trip}
 use Rattle.trip.specs.declared.Window.{Window}
 use Rattle.trip.specs.declared.Asking.{Asking}
 use Rattle.trip.specs.Relationships.{lastCode}
+use Rattle.trip.specs.Trips.{lastDay, neverRuns}
 use Rattle.layout.specs.declared.Half.the-variants.{Originals, Replicas}
 use Rattle.layout.specs.declared.Refusal.{Refusal}
-use Rattle.layout.specs.declared.Refusal.the-variants.{RulerOutOfBounds, TableSize, DirectoryLength, OffRuler, Backward, IdTaken, NoRoom, NotAnIndex, NoRelationship, NoSuchId, NoSuchSlot}
+use Rattle.layout.specs.declared.Refusal.the-variants.{RulerOutOfBounds, TableSize, DirectoryLength, OffRuler, Backward, IdTaken, NoRoom, NotAnIndex, NoRelationship, NoSuchId, NoSuchSlot, NoDays, NoSuchDay}
 use Rattle.layout.specs.declared.Outcome.{Outcome}
 use Rattle.layout.specs.declared.Outcome.the-variants.{Accepted, Refused}
 use Rattle.layout.specs.Stored.{partitionsAt}
@@ -35,6 +36,8 @@ refusalNumber NotAnIndex = 8
 refusalNumber NoRelationship = 9
 refusalNumber NoSuchId = 10
 refusalNumber NoSuchSlot = 12
+refusalNumber NoDays = 16
+refusalNumber NoSuchDay = 17
 
 -- "An accepted call returns number 0 and detail 0. A refusal returns its number and one detail (0 unless named)"
 abbrev pub numberOf : Outcome → ℕ
@@ -60,7 +63,7 @@ refuse false why detail rest = rest
 unfoldable pub outOfBounds : Scale → Bool
 outOfBounds s = not (s .good)
 
--- 2 "build: words not a multiple of 3, or over 4,096 rows; add: 4,096 trips already"
+-- 2 "build: words not a multiple of 3, or over 4,096 rows; add: 4,096 trips already"; T-07: "Rows and entries become four words, so 2's multiple is 4"
 unfoldable pub badSize : (table : List ℕ) → Bool
 badSize table = not (eqb (length table % entryWords) 0) || ltb mostTrips (length table / entryWords)
 
@@ -101,6 +104,12 @@ noSuchCode code = ltb lastCode code
 unfoldable pub noSuchSlot : Scale → (L i subdivision : ℕ) → Bool
 noSuchSlot s L i d = ltb (s .m) L || (leb (partitionsAt L) i || ltb lastSubdivision d)
 
+-- 16 "for a word of zero" (T-07): `neverRuns`
+
+-- 17 "for a day above 31" (T-07)
+unfoldable pub noSuchDay : (day : ℕ) → Bool
+noSuchDay day = ltb lastDay day
+
 -- ---- "Order."
 
 -- 4 and 5, of a trip or of a window
@@ -118,18 +127,20 @@ pub record OnRuler (s : Scale) (start end : Time) : Type 0 where
   pub ends : T (s .has end)
   pub ordered : start .0 ≤ end .0
 
--- a trip that passes the tests which ask for nothing but the trip, 4 and 5: the test, and what is known where it passes
+-- a trip that passes 4, 5 and 16, which ask for nothing but the trip: the test, and what is known where it passes
 unfoldable pub fits : Scale → Trip → Bool
-fits s t = onRuler s (t .start) (t .end)
+fits s t = onRuler s (t .start) (t .end) && not (neverRuns t)
 
 pub record Fits (s : Scale) (t : Trip) : Type 0 where
   pub times : OnRuler s (t .start) (t .end)
+  pub runs : T (not (neverRuns t))
 
--- "within it 4, 5, 6": one row, by whether its id is taken; and beside the trips that are there
+-- "within it 4, 5, 6", and T-07: 16 "after 6": one row, by whether its id is taken; and beside the trips that are there
 unfoldable pub rowTestsBy : Scale → (taken : Bool) → Trip → (detail : ℕ) → Outcome → Outcome
 rowTestsBy s taken t d rest =
     timeTests s (t .start) (t .end) d
-    (refuse taken IdTaken d rest)
+    (refuse taken IdTaken d
+    (refuse (neverRuns t) NoDays d rest))
 
 unfoldable pub rowTests : Scale → (there : List Trip) → Trip → (detail : ℕ) → Outcome → Outcome
 rowTests s there t d rest = rowTestsBy s (hasId (t .id) there) t d rest
@@ -180,7 +191,7 @@ indexTests s x rest =
     (refuse (badDirectory s (length (x .directory))) DirectoryLength 0
     (refuse (not (isIndex s x)) NotAnIndex 0 rest))
 
--- "Add: 1, 3, 8, 2, 4, 5, 6, 7."
+-- "Add: 1, 3, 8, 2, 4, 5, 6, 7", with 16 after 6
 unfoldable pub addOutcome : Scale → Index → Trip → Outcome
 addOutcome s x t =
     indexTests s x
@@ -192,18 +203,22 @@ addOutcome s x t =
 unfoldable pub removeOutcome : Scale → Index → (id : ℕ) → Outcome
 removeOutcome s x i = indexTests s x (refuse (not (hasId i (tableOf s x))) NoSuchId 0 Accepted)
 
--- 4 and 5 of a window, then "7 matches exceed the answer list (detail: the matches)"
-unfoldable pub windowTests : Scale → Window → Outcome → Outcome
-windowTests s w rest = timeTests s (w .start) (w .end) 0 rest
+-- 4 and 5 of a window, and 17 of a day, "after 5 and before 7"
+unfoldable pub windowTests : Scale → Window → (day : ℕ) → Outcome → Outcome
+windowTests s w day rest =
+    timeTests s (w .start) (w .end) 0
+    (refuse (noSuchDay day) NoSuchDay 0 rest)
 
--- 9, 4, 5: a question as it is put
+-- 9, 4, 5, 17: a question as it is put
 unfoldable pub questionTests : Scale → Asking → Outcome → Outcome
-questionTests s q rest = refuse (noSuchCode (q .code)) NoRelationship 0 (windowTests s (q .window) rest)
+questionTests s q rest = refuse (noSuchCode (q .code)) NoRelationship 0 (windowTests s (q .window) (q .day) rest)
+
+-- 7 "or matches exceed the answer list (detail: the matches)"
 
 unfoldable pub roomTest : (matches room : ℕ) → Outcome
 roomTest matches room = refuse (exceeds matches room) NoRoom matches Accepted
 
--- "Question: 1, 3, 8, 9, 4, 5, 7."
+-- "Question: 1, 3, 8, 9, 4, 5, 7", with 17 after 5
 unfoldable pub askOutcome : Scale → Index → Asking → (room : ℕ) → Outcome
 askOutcome s x q room = indexTests s x (questionTests s q (roomTest (length (answerTo q (tableOf s x))) room))
 

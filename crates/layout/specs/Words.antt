@@ -16,16 +16,18 @@ use Rattle.layout.specs.declared.Subdivision.{Subdivision}
 use Rattle.layout.specs.declared.Subdivision.the-variants.{OIn, OAft, RIn, RAft}
 use Rattle.layout.specs.Stored.{holdsTrip, belongs, subdivisionOf}
 
--- "A table row and an index entry are three words: id, start, end." (Here alone: how many words, which, and how they are read.)
+-- "A table row and an index entry are three words: id, start, end." Document 02, T-07: "Rows and entries become four words", the fourth for the days.
+-- (Here alone: how many words, which, and how they are read.)
 abbrev pub entryWords : ℕ
-entryWords = 3
+entryWords = 4
 
 unfoldable pub tripWords : Trip → List ℕ
-tripWords t = t .id ∷ t .start .0 ∷ t .end .0 ∷ []
+tripWords t = t .id ∷ t .start .0 ∷ t .end .0 ∷ t .days ∷ []
 
 -- the trip whose words stand at place k of a list of entries
 unfoldable pub tripAt : List ℕ → (k : ℕ) → Trip
-tripAt l k = tripOf (getD l (entryWords * k) 0) (getD l (entryWords * k + 1) 0) (getD l (entryWords * k + 2) 0)
+tripAt l k =
+    tripOf (getD l (entryWords * k) 0) (getD l (entryWords * k + 1) 0) (getD l (entryWords * k + 2) 0) (getD l (entryWords * k + 3) 0)
 
 -- the words of trips one after another, and the whole rows of a list of words
 unfoldable pub words : List Trip → List ℕ

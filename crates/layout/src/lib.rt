@@ -3,6 +3,7 @@ pub mod directory;
 
 use ruler::Ruler;
 use ruler::Time;
+use trip::LAST_DAY;
 use trip::Trip;
 use trip::Window;
 ghost use mathlib.Core.Path.{_≡_};
@@ -25,7 +26,7 @@ pub enum Subdivision {
     RAft,
 }
 
-// Why a call is refused, in the order of the paper's numbers: 1 to 10, and 12.
+// Why a call is refused, in the order of the paper's numbers: 1 to 10, 12, 16 and 17.
 pub enum Refusal {
     RulerOutOfBounds,
     TableSize,
@@ -38,6 +39,8 @@ pub enum Refusal {
     NoRelationship,
     NoSuchId,
     NoSuchSlot,
+    NoDays,
+    NoSuchDay,
 }
 
 // What a call answers.
@@ -47,7 +50,7 @@ pub enum Outcome {
 }
 
 // The words of a table row and of an index entry.
-pub const ENTRY_WORDS: usize = 3;
+pub const ENTRY_WORDS: usize = 4;
 
 // The constant of the code is that of the definitions.
 pub fn entry_words() -> usize
@@ -92,6 +95,8 @@ pub fn refusal_number(refusal: Refusal) -> u32
         Refusal::NoRelationship => 9,
         Refusal::NoSuchId => 10,
         Refusal::NoSuchSlot => 12,
+        Refusal::NoDays => 16,
+        Refusal::NoSuchDay => 17,
     }
 }
 
@@ -150,7 +155,7 @@ pub fn time_outcome(ruler: Ruler, start: Time, end: Time, detail: u32) -> Outcom
     Outcome::Accepted
 }
 
-// The tests 4, 5 and 6 of a trip, by whether its id is taken.
+// The tests 4, 5, 6 and 16 of a trip, by whether its id is taken.
 pub fn row_outcome(ruler: Ruler, t: Trip, taken: bool, detail: u32) -> Outcome
     requires { ⌜ Made ruler ⌝ }
     ensures { λ r. ⌜ r ≡ rowTestsBy (scale ruler) taken t detail Outcome.Accepted ⌝ }
@@ -162,13 +167,23 @@ pub fn row_outcome(ruler: Ruler, t: Trip, taken: bool, detail: u32) -> Outcome
     if taken {
         return refused(Refusal::IdTaken, detail);
     }
+    if t.never_runs() {
+        return refused(Refusal::NoDays, detail);
+    }
     Outcome::Accepted
 }
 
-// The tests 4 and 5 of a window.
-pub fn window_outcome(ruler: Ruler, window: Window) -> Outcome
+// The tests 4 and 5 of a window, and 17 of a day.
+pub fn window_outcome(ruler: Ruler, window: Window, day: u32) -> Outcome
     requires { ⌜ Made ruler ⌝ }
-    ensures { λ r. ⌜ r ≡ windowTests (scale ruler) window Outcome.Accepted ⌝ }
+    ensures { λ r. ⌜ r ≡ windowTests (scale ruler) window day Outcome.Accepted ⌝ }
 {
-    time_outcome(ruler, window.start, window.end, 0)
+    let times = time_outcome(ruler, window.start, window.end, 0);
+    if !is_accepted(times) {
+        return times;
+    }
+    if LAST_DAY < day {
+        return refused(Refusal::NoSuchDay, 0);
+    }
+    Outcome::Accepted
 }

@@ -1,6 +1,6 @@
--- Laws of `keep`: of lists joined, of a list that passes whole, of one of which nothing passes, after a wider test, and of one more value.
+-- Laws of `keep`: of lists joined, of a list that passes whole, of one of which nothing passes, after a wider test, of two tests, and of one more value.
 use mathlib.Core.Path.{_≡_, refl, ap, ap₂, _∙_}
-use mathlib.Core.Bool.{Bool, true, false}
+use mathlib.Core.Bool.{Bool, true, false, _&&_, and-true, and-false}
 use mathlib.Core.List.{List, [], _∷_, _++_, append-nil, List·Memᴰ as Mem, List·Memᴰ·head as here, List·Memᴰ·tail as there}
 use Prim.Native.Nat.{ℕ, zero, suc, _+_, _≤_, _<_}
 use native.Mathlib.Numerals.{add-one}
@@ -58,6 +58,17 @@ module _ {A : Type 0} (p : A → Bool) where
       go : (b : Bool) → (b ≡ false → p x ≡ false) → keep p (keep wide l) ≡ keep p l → keep p (consIf b x (keep wide l)) ≡ consIf (p x) x (keep p l)
       go true n ih = ap (consIf (p x) x) ih
       go false n ih = rw (n refl) ih
+
+  -- what passes both of two tests passes one and then the other
+  pub keep-both : (q : A → Bool) (l : List A) → keep (λ z. p z && q z) l ≡ keep p (keep q l)
+  unfolding keep
+  keep-both q [] = refl
+  keep-both q (x ∷ l) = go (q x) (keep-both q l)
+    where
+      go : (b : Bool) → keep (λ z. p z && q z) l ≡ keep p (keep q l)
+          → consIf (p x && b) x (keep (λ z. p z && q z) l) ≡ keep p (consIf b x (keep q l))
+      go true ih = rw and-true (ap (consIf (p x) x) ih)
+      go false ih = rw and-false ih
 
   -- a loop over the values f 0, f 1, .. : what is kept of the first i of them, one turn, and how long it is
   module _ (f : ℕ → A) where

@@ -1,20 +1,20 @@
--- Which entries match untested, and why: where a plan is quick, a trip that ends after the low cell and starts before the high one
--- matches. So a level's matches are the same with the tests left out there.
-use mathlib.Core.Path.{_≡_, refl, sym, ap, _∙_, fun-ext}
+-- Which entries are within the bounds untested, and why: where a plan is quick, a trip that ends after the low cell and starts before the high one
+-- is. So a level's matches are the same with the bounds not tested there.
+use mathlib.Core.Path.{_≡_, refl, ap, _∙_, fun-ext}
 use mathlib.Core.Bool.{Bool, true, false, not, _&&_}
 use mathlib.Core.List.{List, _++_, List·Memᴰ as Mem, append-assoc}
 use Prim.Native.Nat.{ℕ, _+_, _-_, _*_, _/_, _%_, _^_, _≤_, _<_}
 use native.Mathlib.Nat.{mul-mod-left}
 use native.Mathlib.Decide.{decLt}
 use native.Mathlib.Omega.{arith}
-use lib.Dec.{T, eqb}
+use lib.Dec.{eqb}
 use lib.Pow.{pow-pos}
 use borrow.Author.Tests.{eqb-true, eqb-false, not-true}
 use Rattle.lists.specs.Lists.{keep, joined}
 use Rattle.lists.proofs.Tests.{of-and, of-T, to-T}
 use Rattle.lists.proofs.Members.{of-keep, of-sort, of-joined}
 use Rattle.lists.proofs.Joined.{joined-add}
-use Rattle.lists.proofs.Kept.{keep-append, keep-all}
+use Rattle.lists.proofs.Kept.{keep-append, keep-ext}
 use Rattle.ruler.specs.Ruler.{Scale, cellUp, nextCell, begins}
 use Rattle.ruler.proofs.CellLevels.{up-mono, up-from, up-to}
 use Rattle.trip.specs.declared.Trip.{Trip}
@@ -25,7 +25,7 @@ use Rattle.layout.specs.Words.{slotTrips}
 use Rattle.layout.proofs.Partitions.{holds-within, of-within}
 use Rattle.layout.proofs.Sides.{ofOriginals, of-isOf}
 use Rattle.plan.specs.declared.range.Plan.{Plan}
-use Rattle.plan.specs.Plan.{Ranged, originalSlots, replicaSlots, sureFirst, sureLast, keepUnless}
+use Rattle.plan.specs.Plan.{Ranged, originalSlots, replicaSlots, sureFirst, sureLast}
 use Rattle.plan.proofs.Looked.{slotFrom, slotsFrom}
 use Rattle.plan.proofs.Ranges.{few-slots}
 
@@ -56,10 +56,11 @@ three-pieces s ts t L a b n h =
     let at-b : a + 1 + c ≡ b = omega arith in
     rw (e, slots-split s Originals ts L a 1 (2 * c + n), slots-split s Originals ts L (a + 1) c n, at-b, keep-append, keep-append, append-assoc)
 
-pub unless-all : (sure : Bool) (t : Trip → Bool) (l : List Trip) → (sure ≡ true → (u : Trip) → Mem u l → T (t u)) → keepUnless sure t l ≡ keep t l
-unfolding keepUnless
-unless-all true t l h = sym (keep-all t l (h refl))
-unless-all false t l h = refl
+-- a test that is told of trips whether they are sure to be within the bounds says the same of those that are, told or not
+pub sure-alike : (sure : Bool) (t : Bool → Trip → Bool) (l : List Trip) → (sure ≡ true → (u : Trip) → Mem u l → t true u ≡ t false u)
+    → keep (t sure) l ≡ keep (t false) l
+sure-alike true t l h = keep-ext (t true) (t false) l (h refl)
+sure-alike false t l h = refl
 
 -- ---- an entry of a level, by its cells
 
@@ -143,10 +144,10 @@ module _ (s : Scale) (ts : List Trip) where
       let apart : A t ≡ c → ⊥ = λ q. other (ap (cellUp (s .m) L) q) in
       omega (arith, up-from (s .m) L c i (omega arith), e .low, apart)
 
--- ---- so nothing is lost where no test is made
+-- ---- so nothing is lost where the bounds are not tested
 
-module _ (s : Scale) (ts : List Trip) (t : Trip → Bool) (p : Plan) (r : Ranged (s .m) p)
-    (sure : p .quick ≡ true → (u : Trip) → Mem u ts → p .low .1 < s .cell (u .end) → s .cell (u .start) < p .high .1 → T (t u)) (L : ℕ) where
+module _ (s : Scale) (ts : List Trip) (t : Bool → Trip → Bool) (p : Plan) (r : Ranged (s .m) p)
+    (sure : p .quick ≡ true → (u : Trip) → Mem u ts → p .low .1 < s .cell (u .end) → s .cell (u .start) < p .high .1 → t true u ≡ t false u) (L : ℕ) where
   abbrev a : ℕ
   a = cellUp (s .m) L (p .low .1)
 
@@ -169,33 +170,33 @@ module _ (s : Scale) (ts : List Trip) (t : Trip → Bool) (p : Plan) (r : Ranged
       (of-T (p .quick) (w .0), rw (r .high-level) at (not-true at-once (of-T (not at-once) (w .1))))
 
   -- the first of several partitions, those between, and the last
-  pub first-sure : a < b → keepUnless (sureFirst p L) t (slotsFrom s Originals ts L a 2) ≡ keep t (slotsFrom s Originals ts L a 2)
-  first-sure h = unless-all (sureFirst p L) t _ (λ f u m.
+  pub first-sure : a < b → keep (t (sureFirst p L)) (slotsFrom s Originals ts L a 2) ≡ keep (t false) (slotsFrom s Originals ts L a 2)
+  first-sure h = sure-alike (sureFirst p L) t _ (λ f u m.
       let e = of-partition s ts Originals L a 2 u (omega arith) m in
       let w = of-first f in
       sure (w .0) u (e .row) (ends-after s ts Originals L (p .low .1) u (w .1) e) (starts-earlier s ts L a (p .high .1) u e h))
 
   pub between-sure : a < b
-      → keepUnless (p .quick) t (slotsFrom s Originals ts L (a + 1) (2 * (b - (a + 1))))
-      ≡ keep t (slotsFrom s Originals ts L (a + 1) (2 * (b - (a + 1))))
-  between-sure h = unless-all (p .quick) t _ (λ f u m.
+      → keep (t (p .quick)) (slotsFrom s Originals ts L (a + 1) (2 * (b - (a + 1))))
+      ≡ keep (t false) (slotsFrom s Originals ts L (a + 1) (2 * (b - (a + 1))))
+  between-sure h = sure-alike (p .quick) t _ (λ f u m.
       let w = of-slots s ts Originals L (a + 1) (2 * (b - (a + 1))) u m in
       let q = w .1 in
       sure f u (w .2 .row) (ends-later s ts L _ (p .low .1) u (w .2) (omega arith)) (starts-earlier s ts L _ (p .high .1) u (w .2) (omega arith)))
 
   pub last-sure : a < b
-      → keepUnless (sureLast p L) t (slotsFrom s Originals ts L b (originalSlots (p .kind)))
-      ≡ keep t (slotsFrom s Originals ts L b (originalSlots (p .kind)))
-  last-sure h = unless-all (sureLast p L) t _ (λ f u m.
+      → keep (t (sureLast p L)) (slotsFrom s Originals ts L b (originalSlots (p .kind)))
+      ≡ keep (t false) (slotsFrom s Originals ts L b (originalSlots (p .kind)))
+  last-sure h = sure-alike (sureLast p L) t _ (λ f u m.
       let e = of-partition s ts Originals L b _ u (few-slots (p .kind) .0) m in
       let w = of-last f in
       sure (w .0) u (e .row) (ends-later s ts L b (p .low .1) u e h) (starts-before s ts Originals L (p .high .1) u (w .1) e))
 
   -- the one partition
   pub one-sure : a ≡ b
-      → keepUnless (sureFirst p L && sureLast p L) t (slotsFrom s Originals ts L a (originalSlots (p .kind)))
-      ≡ keep t (slotsFrom s Originals ts L a (originalSlots (p .kind)))
-  one-sure ab = unless-all (sureFirst p L && sureLast p L) t _ (λ f u m.
+      → keep (t (sureFirst p L && sureLast p L)) (slotsFrom s Originals ts L a (originalSlots (p .kind)))
+      ≡ keep (t false) (slotsFrom s Originals ts L a (originalSlots (p .kind)))
+  one-sure ab = sure-alike (sureFirst p L && sureLast p L) t _ (λ f u m.
       let e = of-partition s ts Originals L a _ u (few-slots (p .kind) .0) m in
       let both = of-and (sureFirst p L) (sureLast p L) (to-T f) in
       let w = of-first (of-T (sureFirst p L) (both .0)) in
@@ -203,9 +204,9 @@ module _ (s : Scale) (ts : List Trip) (t : Trip → Bool) (p : Plan) (r : Ranged
       sure (w .0) u (e .row) (ends-after s ts Originals L (p .low .1) u (w .1) e) (starts-before s ts Originals L (p .high .1) u (v .1) (rw ab at e)))
 
   -- the replicas of the first partition
-  pub replicas-sure : keepUnless (sureFirst p L) t (slotsFrom s Replicas ts L a (replicaSlots (p .kind)))
-      ≡ keep t (slotsFrom s Replicas ts L a (replicaSlots (p .kind)))
-  replicas-sure = unless-all (sureFirst p L) t _ (λ f u m.
+  pub replicas-sure : keep (t (sureFirst p L)) (slotsFrom s Replicas ts L a (replicaSlots (p .kind)))
+      ≡ keep (t false) (slotsFrom s Replicas ts L a (replicaSlots (p .kind)))
+  replicas-sure = sure-alike (sureFirst p L) t _ (λ f u m.
       let e = of-partition s ts Replicas L a _ u (few-slots (p .kind) .1) m in
       let w = of-first f in
       sure (w .0) u (e .row) (ends-after s ts Replicas L (p .low .1) u (w .1) e) (omega (arith, replica-before s ts L (p .low .1) u e, r .ordered)))

@@ -2,13 +2,10 @@
 -- each level the stretches of the directory that the plan goes through.
 use mathlib.Core.Path.{_≡_}
 use mathlib.Core.Bool.{Bool, true, false, cond, not, _&&_}
-use mathlib.Core.List.{List}
 use Prim.Native.Nat.{ℕ, _+_, _-_, _*_, _^_, _≤_, _<_}
 use lib.Dec.{ltb}
-use Rattle.lists.specs.Lists.{keep}
 use Rattle.ruler.specs.declared.Cell.{Cell}
 use Rattle.ruler.specs.Ruler.{Scale, deepest, cellUp, cellOf, bottomCell, nextCell, begins}
-use Rattle.trip.specs.declared.Trip.{Trip}
 use Rattle.trip.specs.declared.Window.{Window}
 use Rattle.trip.specs.declared.Relationship.{Relationship}
 use Rattle.trip.specs.declared.Relationship.the-variants.{Equals, Starts, StartedBy, Finishes, FinishedBy, Meets, MetBy, Overlaps, OverlappedBy, Contains, ContainedBy, Before, After, GOverlaps}
@@ -98,7 +95,3 @@ stretchesAt p L =
     let from = halfLength (p .low .0) + slotAt (p .low) L in
     arranged (slotAt (p .low) L) (slotAt (p .high) L) (originalSlots (p .kind)) (p .quick) (sureFirst p L) (sureLast p L)
     (stretch from (from + replicaSlots (p .kind)) (sureFirst p L))
-
--- those of a list that pass the test; the whole list, untested, where it is known that all pass
-unfoldable pub keepUnless : (sure : Bool) → (Trip → Bool) → List Trip → List Trip
-keepUnless sure t l = cond sure l (keep t l)

@@ -52,7 +52,7 @@ fn check_said(n: Fields, directory: &[u32], originals: &[u32], replicas: &[u32])
 
 fn add_said(n: Fields, directory: &mut [u32], originals: &mut [u32], replicas: &mut [u32]) -> Said {
     let ruler = n.ruler;
-    let t = Trip::of(n.first, n.second, n.third);
+    let t = Trip::of(n.first, n.second, n.third, n.fourth);
     counted(edit::add(ruler, directory, originals, replicas, t), 0)
 }
 
@@ -77,7 +77,7 @@ fn ask_said<'a>(
     answers: &mut [u32],
 ) -> Said {
     let ruler = n.ruler;
-    let asking = Asking::of(n.first, n.second, n.third);
+    let asking = Asking::of(n.first, n.second, n.third, n.fourth);
     let answered = ask::ask(ruler, directory, originals, replicas, asking, answers);
     let outcome = answered.outcome;
     counted(outcome, answered.count)

@@ -5,8 +5,8 @@ ghost use Prim.Native.Nat.{_≤_};
 ghost use lib.ListN.{length};
 
 // What is kept of a line. The longest call is a build under the second ruler with every buffer full: its name, the ruler's word after a space, and
-// 92,807 numbers of at most ten digits, each after a space, are 1,020,889 bytes. So a line that fills this is no call.
-pub const LINE: usize = 1100000;
+// 101,007 numbers of at most ten digits, each after a space, are 1,111,089 bytes. So a line that fills this is no call.
+pub const LINE: usize = 1200000;
 
 // How much is read at once.
 pub const CHUNK: usize = 65536;

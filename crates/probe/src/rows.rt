@@ -11,7 +11,7 @@ const DIRECTORY: usize = 8200;
 
 const ORIGINALS: usize = ENTRY_WORDS * 4100;
 
-const REPLICAS: usize = ENTRY_WORDS * 20000;
+const REPLICAS: usize = ENTRY_WORDS * 15000;
 
 const ANSWERS: usize = 4100;
 
@@ -105,9 +105,9 @@ fn row_at(place: usize, at: usize, nowhere: usize) -> Row {
     match place {
         0 => row_of(Call::Build, at, 0, table, index, Gives::Nothing),
         1 => row_of(Call::Check, at, 0, index, none, Gives::Nothing),
-        2 => row_of(Call::Add, at, 3, none, index, Gives::Nothing),
+        2 => row_of(Call::Add, at, 4, none, index, Gives::Nothing),
         3 => row_of(Call::Remove, at, 1, none, index, Gives::Nothing),
-        4 => row_of(Call::Ask, at, 3, index, answers, Gives::Count),
+        4 => row_of(Call::Ask, at, 4, index, answers, Gives::Count),
         5 => row_of(Call::Run, at, 3, index, none, Gives::Run),
         6 => row_of(Call::Census, at, 0, index, none, Gives::Census),
         _ => row_of(Call::Unknown, nowhere, 0, none, none, Gives::Nothing),

@@ -24,12 +24,13 @@ pub struct Words {
     pub next: usize,
 }
 
-// The ruler of a call, and up to three numbers after it. Those that it has not are 0.
+// The ruler of a call, and up to four numbers after it. Those that it has not are 0.
 pub struct Fields {
     pub ruler: Numbers,
     pub first: u32,
     pub second: u32,
     pub third: u32,
+    pub fourth: u32,
     pub next: usize,
 }
 
@@ -152,12 +153,14 @@ pub fn numbers_at(line: &[u8], at: usize, count: usize) -> Fields {
     let a = number_if(line, named.next, 0 < count);
     let b = number_if(line, a.next, 1 < count);
     let c = number_if(line, b.next, 2 < count);
+    let d = number_if(line, c.next, 3 < count);
     Fields {
         ruler,
         first: a.value,
         second: b.value,
         third: c.value,
-        next: c.next,
+        fourth: d.value,
+        next: d.next,
     }
 }
 

@@ -15,13 +15,15 @@ use Rattle.store.specs.Entries.{put, ids}
 
 -- the stores of a trip's words, one after another
 pub put-words : (l : List ℕ) (k : ℕ) (t : Trip) → k < length l / entryWords
-    → set (set (set l (entryWords * k) (t .id)) (entryWords * k + 1) (t .start .0)) (entryWords * k + 2) (t .end .0) ≡ put k t l
+    → set (set (set (set l (entryWords * k) (t .id)) (entryWords * k + 1) (t .start .0)) (entryWords * k + 2) (t .end .0)) (entryWords * k + 3) (t .days)
+    ≡ put k t l
 unfolding put tripWords
 put-words l k t h =
     let a = entryWords * k in
     let one : a + 1 ≡ suc a = omega arith in
     let two : a + 2 ≡ suc (suc a) = omega arith in
-    rw (one, two) (sets-eq (t .id ∷ t .start .0 ∷ t .end .0 ∷ []) l a (omega arith) ∙ append-assoc (take a l) _ _)
+    let three : a + 3 ≡ suc (suc (suc a)) = omega arith in
+    rw (one, two, three) (sets-eq (t .id ∷ t .start .0 ∷ t .end .0 ∷ t .days ∷ []) l a (omega arith) ∙ append-assoc (take a l) _ _)
 
 -- a list of one entry
 pub put-whole : (t : Trip) (l : List ℕ) → length l ≡ entryWords → put 0 t l ≡ tripWords t

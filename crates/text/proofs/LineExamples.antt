@@ -29,12 +29,22 @@ lines s = linesOf (bytes s)
 abbrev Mean : List (String × Command) → Type 0
 Mean es = map (λ (e : String × Command). meaning (e .0)) es ≡ map (λ (e : String × Command). e .1) es
 
+-- T-07: "document 01's cases are run with every bit set and day 0"
+abbrev everyDay : ℕ
+everyDay = 4294967295
+
 document : Mean (
-    ("D 6 4", Ruler 6 4) ∷ ("T 7 21 38", Add 7 21 38) ∷ ("T 3 20 20", Add 3 20 20) ∷ ("T 9 0 63", Add 9 0 63)
-    ∷ ("T 4 39 40", Add 4 39 40) ∷ ("Q 13 22 23", Ask 13 22 23) ∷ ("Q 13 38 39", Ask 13 38 39) ∷ ("Q 5 10 20", Ask 5 10 20)
-    ∷ ("X 3", Remove 3) ∷ ("Q 13 0 63", Ask 13 0 63) ∷ ("T 5 40 39", Add 5 40 39) ∷ [])
+    ("D 6 4", Ruler 6 4) ∷ ("T 7 21 38 4294967295", Add 7 21 38 everyDay) ∷ ("T 3 20 20 4294967295", Add 3 20 20 everyDay)
+    ∷ ("T 9 0 63 4294967295", Add 9 0 63 everyDay) ∷ ("T 4 39 40 4294967295", Add 4 39 40 everyDay) ∷ ("Q 13 22 23 0", Ask 13 22 23 0)
+    ∷ ("Q 13 38 39 0", Ask 13 38 39 0) ∷ ("Q 5 10 20 0", Ask 5 10 20 0) ∷ ("X 3", Remove 3) ∷ ("Q 13 0 63 0", Ask 13 0 63 0)
+    ∷ ("T 5 40 39 4294967295", Add 5 40 39 everyDay) ∷ [])
 unfolding meaning
 document = refl
+
+-- any u32 is a day word or a day of the form; a day that there is not, and no days, are the library's to refuse
+days : Mean (("T 0 0 0 0", Add 0 0 0 0) ∷ ("Q 4294967295 0 0 32", Ask 4294967295 0 0 32) ∷ ("Q 0 0 0 4294967296", Bad) ∷ [])
+unfolding meaning
+days = refl
 
 -- ten digits and eleven, the largest u32 and the next number
 numbers : Mean (
@@ -46,7 +56,8 @@ numbers = refl
 -- a space, a letter or a field too many, too few or of another kind
 forms : Mean (
     ("X 3 ", Bad) ∷ (" X 3", Bad) ∷ ("X  3", Bad) ∷ ("X\t3", Bad) ∷ ("X 3\r", Bad) ∷ ("x 3", Bad) ∷ ("XX 3", Bad) ∷ ("X3", Bad)
-    ∷ ("X", Bad) ∷ ("", Bad) ∷ ("X 3 4", Bad) ∷ ("D 6", Bad) ∷ ("T 7 21", Bad) ∷ ("Q 13 22 23 24", Bad) ∷ [])
+    ∷ ("X", Bad) ∷ ("", Bad) ∷ ("X 3 4", Bad) ∷ ("D 6", Bad) ∷ ("T 7 21 38", Bad) ∷ ("Q 13 22 23", Bad)
+    ∷ ("T 7 21 38 1 0", Bad) ∷ ("Q 13 22 23 24 25", Bad) ∷ [])
 unfolding meaning
 forms = refl
 

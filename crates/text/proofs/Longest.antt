@@ -1,10 +1,10 @@
--- The longest line that is not malformed is a letter and three numbers of ten digits, each after a space. So a line that does not end
+-- The longest line that is not malformed is a letter and four numbers of ten digits, each after a space. So a line that does not end
 -- within a buffer of more bytes is malformed, whatever follows.
 -- Assumes nothing.
 use mathlib.Core.Path.{_≡_, refl}
 use mathlib.Core.Bool.{Bool, true, false, cond}
 use mathlib.Core.List.{List, [], _∷_}
-use Prim.Native.Nat.{ℕ, suc, _+_, _*_, _≤_, _<_}
+use Prim.Native.Nat.{ℕ, suc, _+_, _-_, _*_, _≤_, _<_}
 use native.Mathlib.Omega.{arith}
 use borrow.Author.Tests.{leb-true, leb-false}
 use lib.Dec.{leb, eqb}
@@ -13,11 +13,11 @@ use lib.Seq.{take-all, length-take-le}
 use Rattle.text.specs.declared.Number.{Number}
 use Rattle.text.specs.declared.Number.the-variants.{Value, Malformed}
 use Rattle.text.specs.declared.LineNumbers.{LineNumbers}
-use Rattle.text.specs.declared.LineNumbers.the-variants.{None, One, Two, Three, Wrong}
+use Rattle.text.specs.declared.LineNumbers.the-variants.{None, One, Two, Three, Four, Wrong}
 use Rattle.text.specs.declared.Command.the-variants.{Bad}
 use Rattle.text.specs.Bytes.{space, onFirst, parted}
 use Rattle.text.specs.Number.{mostDigits, numberOf}
-use Rattle.text.specs.Command.{followedBy, numbersAfter, numbersOf, commandOfFields, commandOf, longestLine}
+use Rattle.text.specs.Command.{followedBy, numbersAfter, numbersOf, commandOfFields, commandOf, mostNumbers, longestLine}
 use Rattle.text.proofs.Parting.{parted-first}
 use Rattle.text.proofs.FieldRead.{too-many}
 
@@ -40,13 +40,18 @@ size-parted s (b ∷ l) = go (eqb b s) (size-parted s l)
     go true e = omega arith
     go false e = rw (parted-first s l) (omega (arith, rw (parted-first s l) at e))
 
+-- how many numbers there are; after wrong ones none may follow, as after the most
+abbrev counted : LineNumbers → ℕ
+counted None = 0
+counted (One a) = 1
+counted (Two a b) = 2
+counted (Three a b c) = 3
+counted (Four a b c d) = mostNumbers
+counted Wrong = mostNumbers
+
 -- how many bytes the fields after these numbers may have
 abbrev room : LineNumbers → ℕ
-room None = 3 * mostField
-room (One a) = 2 * mostField
-room (Two a b) = mostField
-room (Three a b c) = 0
-room Wrong = 0
+room ns = (mostNumbers - counted ns) * mostField
 
 stays-wrong : (fs : List (List ℕ)) → numbersAfter Wrong fs ≡ Wrong
 unfolding numbersAfter
@@ -64,7 +69,8 @@ one-more ns Malformed n fs few h rest = stays-wrong fs
 one-more None (Value a) n fs few h rest = rest (One a) (omega arith)
 one-more (One a) (Value b) n fs few h rest = rest (Two a b) (omega arith)
 one-more (Two a b) (Value c) n fs few h rest = rest (Three a b c) (omega arith)
-one-more (Three a b c) (Value d) n fs few h rest = stays-wrong fs
+one-more (Three a b c) (Value d) n fs few h rest = rest (Four a b c d) (omega arith)
+one-more (Four a b c d) (Value e) n fs few h rest = stays-wrong fs
 one-more Wrong (Value a) n fs few h rest = stays-wrong fs
 
 long-numbers : (fs : List (List ℕ)) (ns : LineNumbers) → room ns < size fs → numbersAfter ns fs ≡ Wrong

@@ -31,7 +31,7 @@ const LETTER_END: usize = 1;
 
 const NUMBERS_START: usize = 2;
 
-// LineNumbers are decimal.
+// Numbers are decimal.
 const BASE: u32 = 10;
 
 // The largest u32, and how many digits a number has at most.
@@ -39,12 +39,32 @@ const MOST_VALUE: u64 = 0xffff_ffff;
 
 pub const MOST_DIGITS: usize = 10;
 
+// How many numbers a line has at most, and so how many bytes a line that means something: a letter, and each number after a space.
+const MOST_NUMBERS: usize = 4;
+
+pub const LONGEST_LINE: usize = LETTER_END + MOST_NUMBERS * (1 + MOST_DIGITS);
+
 // What a line means. Bad is a malformed line.
 pub enum Command {
-    Ruler { w: u32, m: u32 },
-    Add { id: u32, start: u32, end: u32 },
-    Remove { id: u32 },
-    Ask { code: u32, start: u32, end: u32 },
+    Ruler {
+        w: u32,
+        m: u32,
+    },
+    Add {
+        id: u32,
+        start: u32,
+        end: u32,
+        days: u32,
+    },
+    Remove {
+        id: u32,
+    },
+    Ask {
+        code: u32,
+        start: u32,
+        end: u32,
+        day: u32,
+    },
     Bad,
 }
 
@@ -54,12 +74,13 @@ pub enum Number {
     Malformed,
 }
 
-// The numbers of a line. No line has more than three, so more are Wrong, and so are any with a malformed one among them.
+// The numbers of a line. No line has more than four, so more are Wrong, and so are any with a malformed one among them.
 pub enum LineNumbers {
     None,
     One(u32),
     Two(u32, u32),
     Three(u32, u32, u32),
+    Four(u32, u32, u32, u32),
     Wrong,
 }
 
@@ -123,7 +144,8 @@ fn followed_by(numbers: LineNumbers, number: Number) -> LineNumbers
             LineNumbers::None => LineNumbers::One(n),
             LineNumbers::One(a) => LineNumbers::Two(a, n),
             LineNumbers::Two(a, b) => LineNumbers::Three(a, b, n),
-            LineNumbers::Three(_, _, _) => LineNumbers::Wrong,
+            LineNumbers::Three(a, b, c) => LineNumbers::Four(a, b, c, n),
+            LineNumbers::Four(_, _, _, _) => LineNumbers::Wrong,
             LineNumbers::Wrong => LineNumbers::Wrong,
         },
     }
@@ -165,20 +187,27 @@ fn form_of(letter: u8, numbers: LineNumbers) -> Command
                 Command::Bad
             }
         }
-        LineNumbers::Three(a, start, end) => {
+        LineNumbers::Four(a, start, end, last) => {
             if letter == ADD {
-                Command::Add { id: a, start, end }
+                Command::Add {
+                    id: a,
+                    start,
+                    end,
+                    days: last,
+                }
             } else if letter == ASK {
                 Command::Ask {
                     code: a,
                     start,
                     end,
+                    day: last,
                 }
             } else {
                 Command::Bad
             }
         }
         LineNumbers::None => Command::Bad,
+        LineNumbers::Three(_, _, _) => Command::Bad,
         LineNumbers::Wrong => Command::Bad,
     }
 }

@@ -26,7 +26,7 @@ times = 4
 
 -- how many of the thirteen hold for the window a to b and the trip c to d
 abbrev howMany : (a b c d : ℕ) → ℕ
-howMany a b c d = count (λ code. codeHolds code (windowOf a b) (tripOf 0 c d)) thirteen
+howMany a b c d = count (λ code. codeHolds code (windowOf a b) (tripOf 0 c d 0)) thirteen
 
 -- one, where neither is backward
 abbrev oneHolds : (a b c d : ℕ) → Bool

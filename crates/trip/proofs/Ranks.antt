@@ -93,7 +93,7 @@ module _ (q : Window) (s : Trip) where
   rankedWindow = windowOf (rank four (q .start)) (rank four (q .end))
 
   abbrev pub rankedTrip : Trip
-  rankedTrip = tripOf 0 (rank four (s .start)) (rank four (s .end))
+  rankedTrip = tripOf 0 (rank four (s .start)) (rank four (s .end)) 0
 
   pub by-rank : (r : Relationship) → related r rankedWindow rankedTrip ≡ related r q s
   unfolding related

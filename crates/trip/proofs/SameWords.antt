@@ -10,15 +10,19 @@ use Rattle.trip.specs.Trips.{tripOf, sameTrip}
 pub of-same : (t u : Trip) → T (sameTrip t u) → t ≡ u
 unfolding sameTrip
 of-same t u q =
-    let a = of-and (eqb (t .id) (u .id)) (sameTime (t .start) (u .start) && sameTime (t .end) (u .end)) q in
-    let b = of-and (sameTime (t .start) (u .start)) (sameTime (t .end) (u .end)) (a .1) in
+    let times = sameTime (t .end) (u .end) && eqb (t .days) (u .days) in
+    let a = of-and (eqb (t .id) (u .id)) (sameTime (t .start) (u .start) && times) q in
+    let b = of-and (sameTime (t .start) (u .start)) times (a .1) in
+    let c = of-and (sameTime (t .end) (u .end)) (eqb (t .days) (u .days)) (b .1) in
     let x = eqb→eq (t .id) (u .id) (a .0) in
     let y = eqb→eq (t .start .0) (u .start .0) (b .0) in
-    let z = eqb→eq (t .end .0) (u .end .0) (b .1) in
-    λ i. tripOf (x i) (y i) (z i)
+    let z = eqb→eq (t .end .0) (u .end .0) (c .0) in
+    let w = eqb→eq (t .days) (u .days) (c .1) in
+    λ i. tripOf (x i) (y i) (z i) (w i)
 
 pub same-refl : (t : Trip) → T (sameTrip t t)
 unfolding sameTrip
 same-refl t =
     to-and (eqb (t .id) (t .id)) _ (eqb-refl (t .id))
-    (to-and (sameTime (t .start) (t .start)) (sameTime (t .end) (t .end)) (eqb-refl (t .start .0)) (eqb-refl (t .end .0)))
+    (to-and (sameTime (t .start) (t .start)) _ (eqb-refl (t .start .0))
+    (to-and (sameTime (t .end) (t .end)) (eqb (t .days) (t .days)) (eqb-refl (t .end .0)) (eqb-refl (t .days))))

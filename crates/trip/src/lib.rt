@@ -2,24 +2,26 @@
 use ruler::Time;
 ghost use mathlib.Core.Path.{_≡_};
 ghost use Rattle.trip.specs.Relationships.{named, related};
-ghost use Rattle.trip.specs.Trips.{tripOf, sameTrip, windowOf, askingOf};
+ghost use Rattle.trip.specs.Trips.{tripOf, sameTrip, runsOnAny, neverRuns, windowOf, askingOf};
 
-// A trip's running time, closed at both ends.
+// A trip's running time, closed at both ends, and a bit for each day on which it runs.
 pub struct Trip {
     pub id: u32,
     pub start: Time,
     pub end: Time,
+    pub days: u32,
 }
 
 impl Trip {
     // A trip made of its words.
-    pub fn of(id: u32, start: u32, end: u32) -> Trip
-        ensures { λ r. ⌜ r ≡ tripOf id start end ⌝ }
+    pub fn of(id: u32, start: u32, end: u32, days: u32) -> Trip
+        ensures { λ r. ⌜ r ≡ tripOf id start end days ⌝ }
     {
         Trip {
             id,
             start: Time::at(start),
             end: Time::at(end),
+            days,
         }
     }
 
@@ -29,9 +31,27 @@ impl Trip {
     {
         let start = self.start;
         let end = self.end;
-        (self.id == other.id) & (start.same(other.start) & end.same(other.end))
+        (self.id == other.id)
+            & (start.same(other.start) & (end.same(other.end) & (self.days == other.days)))
+    }
+
+    // Whether it runs on one of these days.
+    pub fn runs_on_any(self, days: u32) -> bool
+        ensures { λ r. ⌜ r ≡ runsOnAny days self ⌝ }
+    {
+        self.days & days != 0
+    }
+
+    // Whether it runs on no day at all.
+    pub fn never_runs(self) -> bool
+        ensures { λ r. ⌜ r ≡ neverRuns self ⌝ }
+    {
+        self.days == 0
     }
 }
+
+// The last day on which a trip can run.
+pub const LAST_DAY: u32 = 31;
 
 pub struct Window {
     pub start: Time,
@@ -49,20 +69,22 @@ impl Window {
     }
 }
 
-// A question as it is put, not yet judged: its code may name nothing, and its window may be off the ruler.
+// A question as it is put, not yet judged: its code may name nothing, its window may be off the ruler, and its day may be none.
 pub struct Asking {
     pub code: u32,
     pub window: Window,
+    pub day: u32,
 }
 
 impl Asking {
     // A question made of its words.
-    pub fn of(code: u32, start: u32, end: u32) -> Asking
-        ensures { λ r. ⌜ r ≡ askingOf code start end ⌝ }
+    pub fn of(code: u32, start: u32, end: u32, day: u32) -> Asking
+        ensures { λ r. ⌜ r ≡ askingOf code start end day ⌝ }
     {
         Asking {
             code,
             window: Window::of(start, end),
+            day,
         }
     }
 }
@@ -88,6 +110,7 @@ pub enum Relationship {
 pub struct Question {
     pub window: Window,
     pub relationship: Relationship,
+    pub day: u32,
 }
 
 // What a code names.

@@ -99,14 +99,14 @@ pub fn frame_of(m: u32, half: Half, aft: bool, partition: Cell) -> Frame
     }
 }
 
-// Whether the trip passes tests 4 and 5.
+// Whether the trip passes tests 4, 5 and 16.
 pub fn fits(ruler: Ruler, t: Trip) -> bool
     requires { ⌜ Made ruler ⌝ }
     ensures { λ r. ⌜ r ≡ fits (scale ruler) t ⌝ }
 {
     let start = t.start;
     let end = t.end;
-    ruler.spans(start, end)
+    ruler.spans(start, end) & !t.never_runs()
 }
 
 // Whether the trip may stand in a slot of this frame.

@@ -47,6 +47,6 @@ pub record AllThere (d o r : List ℕ) (s : Stretches) : Type 0 where
   pub first-between : s .first .to ≡ s .between .from
   pub between-last : s .between .to ≡ s .last .from
 
-unfoldable pub fourMatches : (Trip → Bool) → (directory originals replicas : List ℕ) → Stretches → List Trip
+unfoldable pub fourMatches : (Bool → Trip → Bool) → (directory originals replicas : List ℕ) → Stretches → List Trip
 fourMatches t d o r s =
     ((stretchMatches t d o (s .first) ++ stretchMatches t d o (s .between)) ++ stretchMatches t d o (s .last)) ++ stretchMatches t d r (s .replicas)

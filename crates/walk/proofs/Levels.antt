@@ -4,7 +4,7 @@ use mathlib.Core.Bool.{Bool, true, false, _&&_}
 use mathlib.Core.List.{List, [], _++_, List·Memᴰ as Mem}
 use Prim.Native.Nat.{ℕ, _+_, _-_, _*_, _^_, _≤_, _<_}
 use native.Mathlib.Omega.{arith}
-use lib.Dec.{T, ltb}
+use lib.Dec.{ltb}
 use borrow.Author.Tests.{ltb-true, ltb-false}
 use Rattle.lists.specs.Lists.{keep, joined}
 use Rattle.lists.proofs.Tests.{to-T}
@@ -18,7 +18,7 @@ use Rattle.layout.proofs.RowOrder.{Distinct}
 use Rattle.layout.proofs.Indexes.{Indexed, of-isIndex}
 use Rattle.layout.proofs.ByDirectory.{LaidFrom, originals-laid, replicas-laid}
 use Rattle.plan.specs.declared.range.Plan.{Plan}
-use Rattle.plan.specs.Plan.{Ranged, originalSlots, replicaSlots, firstSlot, slotAt, sureFirst, sureLast, keepUnless, stretch, arranged, stretchesAt}
+use Rattle.plan.specs.Plan.{Ranged, originalSlots, replicaSlots, firstSlot, slotAt, sureFirst, sureLast, stretch, arranged, stretchesAt}
 use Rattle.plan.proofs.Looked.{slotsFrom, width, lookedAt, levelWalk, walk}
 use Rattle.plan.proofs.Ranges.{few-slots, cells-ordered, high-in}
 use Rattle.plan.proofs.Sure.{three-pieces, first-sure, between-sure, last-sure, one-sure, replicas-sure}
@@ -29,17 +29,17 @@ use Rattle.walk.proofs.LevelSlots.{SlotsThere, AllThere, fourMatches}
 use Rattle.walk.proofs.LooksMeet.{none-kept, level-looks, level-there}
 use Rattle.walk.proofs.StretchWords.{stretch-is, stretch-there, partition-there}
 
--- what the walk asks: an index, a plan on its ruler, and that a quick plan is right to be so
-pub record Ready (s : Scale) (t : Trip → Bool) (p : Plan) (x : Index) : Type 0 where
+-- what the walk asks: an index, a plan on its ruler, and that a quick plan is right to be so: the test says the same, told or not
+pub record Ready (s : Scale) (t : Bool → Trip → Bool) (p : Plan) (x : Index) : Type 0 where
   pub indexed : isIndex s x ≡ true
   pub ranged : Ranged (s .m) p
-  pub sure : p .quick ≡ true → (u : Trip) → Mem u (tableOf s x) → p .low .1 < s .cell (u .end) → s .cell (u .start) < p .high .1 → T (t u)
+  pub sure : p .quick ≡ true → (u : Trip) → Mem u (tableOf s x) → p .low .1 < s .cell (u .end) → s .cell (u .start) < p .high .1 → t true u ≡ t false u
 
 no-slots : (s : Scale) (h : Half) (ts : List Trip) (L i : ℕ) → slotsFrom s h ts L i 0 ≡ []
 unfolding slotsFrom joined
 no-slots s h ts L i = refl
 
-module _ {s : Scale} {t : Trip → Bool} {p : Plan} {x : Index} (r : Ready s t p x) (L : ℕ) (deep : L ≤ s .m) where
+module _ {s : Scale} {t : Bool → Trip → Bool} {p : Plan} {x : Index} (r : Ready s t p x) (L : ℕ) (deep : L ≤ s .m) where
   abbrev ts : List Trip
   ts = tableOf s x
 
@@ -71,9 +71,9 @@ module _ {s : Scale} {t : Trip → Bool} {p : Plan} {x : Index} (r : Ready s t p
   slots-there i n from to sure few h f g = partition-there originals L i n deep h (omega arith) (omega arith) sure few apart
 
   piece-is : (i n from to : ℕ) (sure : Bool) → 2 * i + n ≤ 2 * 2 ^ L → from ≡ firstSlot L i → to ≡ firstSlot L i + n
-      → stretchMatches t (x .directory) (x .originals) (stretch from to sure) ≡ keepUnless sure t (slotsFrom s Originals ts L i n)
+      → stretchMatches t (x .directory) (x .originals) (stretch from to sure) ≡ keep (t sure) (slotsFrom s Originals ts L i n)
   unfolding stretchMatches
-  piece-is i n from to sure h f g = ap (keepUnless sure t) (stretch-is originals L i n deep h (omega arith) (omega arith))
+  piece-is i n from to sure h f g = ap (keep (t sure)) (stretch-is originals L i n deep h (omega arith) (omega arith))
 
   -- the first slots of the two partitions, and where the replicas' half begins, as the code has them
   module _ (P Q H : ℕ) (at-P : P ≡ firstSlot L a) (at-Q : Q ≡ firstSlot L b) (at-H : H ≡ halfLength (s .m)) where
@@ -123,19 +123,19 @@ module _ {s : Scale} {t : Trip → Bool} {p : Plan} {x : Index} (r : Ready s t p
         })
 
     -- the matches of the originals' three stretches, and of the replicas'
-    copies-are : stretchMatches t (x .directory) (x .replicas) (stretch (H + P) (H + P + k) (sureFirst p L)) ≡ keep t (slotsFrom s Replicas ts L a k)
+    copies-are : stretchMatches t (x .directory) (x .replicas) (stretch (H + P) (H + P + k) (sureFirst p L)) ≡ keep (t false) (slotsFrom s Replicas ts L a k)
     unfolding stretchMatches
     copies-are =
         let f = few-slots (p .kind) in
         let i = high-in (r .ranged) L deep in
         let o = cells-ordered (r .ranged) L deep in
-        ap (keepUnless (sureFirst p L) t) (stretch-is replicas L a k deep (omega arith) (omega arith) (omega arith))
+        ap (keep (t (sureFirst p L))) (stretch-is replicas L a k deep (omega arith) (omega arith) (omega arith))
         ∙ replicas-sure s ts t p (r .ranged) (r .sure) L
 
     arranged-are : (c : Bool) → ltb P Q ≡ c
         → fourMatches t (x .directory) (x .originals) (x .replicas)
         (arranged P Q n (p .quick) (sureFirst p L) (sureLast p L) (stretch (H + P) (H + P + k) (sureFirst p L)))
-        ≡ keep t (slotsFrom s Originals ts L a (2 * (b - a) + n)) ++ keep t (slotsFrom s Replicas ts L a k)
+        ≡ keep (t false) (slotsFrom s Originals ts L a (2 * (b - a) + n)) ++ keep (t false) (slotsFrom s Replicas ts L a k)
     unfolding arranged fourMatches firstSlot partitionNumber
     arranged-are true e =
         let h = ltb-true P Q e in
@@ -148,7 +148,7 @@ module _ {s : Scale} {t : Trip → Bool} {p : Plan} {x : Index} (r : Ready s t p
         ∙ between-sure s ts t p (r .ranged) (r .sure) L ab
         in
         let last = piece-is b n Q (Q + n) (sureLast p L) (omega arith) at-Q (omega arith) ∙ last-sure s ts t p (r .ranged) (r .sure) L ab in
-        rw e (ap₂ _++_ (ap₂ _++_ (ap₂ _++_ first between) last ∙ three-pieces s ts t L a b n ab) copies-are)
+        rw e (ap₂ _++_ (ap₂ _++_ (ap₂ _++_ first between) last ∙ three-pieces s ts (t false) L a b n ab) copies-are)
     arranged-are false e =
         let h = ltb-false P Q e in
         let f = few-slots (p .kind) in
@@ -157,8 +157,8 @@ module _ {s : Scale} {t : Trip → Bool} {p : Plan} {x : Index} (r : Ready s t p
         let ab : a ≡ b = omega arith in
         let size : 2 * (b - a) + n ≡ n = omega arith in
         let none =
-        piece-is a 0 P P (p .quick) (omega arith) at-P (omega arith) ∙ ap (keepUnless (p .quick) t) (no-slots s Originals ts L a)
-        ∙ none-kept (p .quick) t
+        piece-is a 0 P P (p .quick) (omega arith) at-P (omega arith) ∙ ap (keep (t (p .quick))) (no-slots s Originals ts L a)
+        ∙ none-kept (t (p .quick))
         in
         let one =
         piece-is a n P (P + n) (sureFirst p L && sureLast p L) (omega arith) at-P (omega arith)
@@ -178,7 +178,7 @@ module _ {s : Scale} {t : Trip → Bool} {p : Plan} {x : Index} (r : Ready s t p
       arranged-there (slotAt (p .low) L) (slotAt (p .high) L) (halfLength (p .low .0)) low-at high-at (ap halfLength (r .ranged .low-level))
       (ltb (slotAt (p .low) L) (slotAt (p .high) L)) refl
 
-  stretches-match : fourMatches t (x .directory) (x .originals) (x .replicas) (stretchesAt p L) ≡ levelWalk s t p (tableOf s x) L
+  stretches-match : fourMatches t (x .directory) (x .originals) (x .replicas) (stretchesAt p L) ≡ levelWalk s (t false) p (tableOf s x) L
   unfolding stretchesAt levelWalk lookedAt width
   stretches-match =
       arranged-are (slotAt (p .low) L) (slotAt (p .high) L) (halfLength (p .low .0)) low-at high-at (ap halfLength (r .ranged .low-level))
@@ -186,13 +186,13 @@ module _ {s : Scale} {t : Trip → Bool} {p : Plan} {x : Index} (r : Ready s t p
 
 -- ---- all levels
 
-module _ {s : Scale} {t : Trip → Bool} {p : Plan} {x : Index} (r : Ready s t p x) where
+module _ {s : Scale} {t : Bool → Trip → Bool} {p : Plan} {x : Index} (r : Ready s t p x) where
   pub levels-there : LevelsThere (x .directory) (x .originals) (x .replicas) p
   levels-there =
       let e = r .ranged .low-level in
       record { ranged = subst (λ (m : ℕ). Ranged m p) (sym e) (r .ranged); there = λ L h. level-there (stretches-there r L (omega arith)) }
 
-  pub walk-matches : walkMatches t (x .directory) (x .originals) (x .replicas) p ≡ walk s t p (tableOf s x) (s .m + 1)
+  pub walk-matches : walkMatches t (x .directory) (x .originals) (x .replicas) p ≡ walk s (t false) p (tableOf s x) (s .m + 1)
   unfolding walk
   walk-matches =
       let e = r .ranged .low-level in

@@ -13,13 +13,14 @@ use Rattle.trip.specs.declared.Trip.{Trip}
 use Rattle.layout.specs.declared.Half.{Half}
 use Rattle.layout.specs.Words.{entryWords, rows}
 use Rattle.layout.proofs.RowParts.{rows-apart}
-use Rattle.plan.specs.declared.bounds.Bounds.{Bounds}
+use Rattle.plan.specs.declared.sought.Sought.{Sought}
 use Rattle.plan.specs.declared.stretches.Stretch.{Stretch}
 use Rattle.plan.specs.declared.stretches.Stretches.{Stretches}
 use Rattle.plan.specs.declared.looks.Look.{Look}
-use Rattle.plan.specs.Bounds.{inside}
-use Rattle.plan.specs.Plan.{keepUnless, stretch}
+use Rattle.plan.specs.Sought.{isSought}
+use Rattle.plan.specs.Plan.{stretch}
 use Rattle.plan.specs.Looks.{frontEnd, frontOf, backOf, looks, originalLooks, lookAt}
+use Rattle.plan.proofs.SoughtMatches.{sought-outside}
 use Rattle.store.specs.Parts.{partWords, PartThere}
 use Rattle.walk.specs.Part.{Listed, stretchMatches}
 use Rattle.walk.specs.Levels.{lookWords, partOf, LookThere, lookMatches, levelLook, levelMatches, LevelThere, looksFrom, looksTo}
@@ -30,39 +31,33 @@ use Rattle.walk.proofs.Searched.{starts-rise, ends-rise, cut-matches}
 -- ---- a look
 
 -- what is left to test of it has all its matches
-part-is : (b : Bounds) (d o r : List ℕ) (l : Look) (c : Bool) → l .stretch .sure ≡ c
-    → keepUnless (l .stretch .sure) (inside b) (rows (partOf b d o r l)) ≡ lookMatches (inside b) d o r l
-unfolding partOf lookMatches lookWords stretchMatches keepUnless
-part-is b d o r l true e = rw e refl
-part-is b d o r l false e = rw e (cut-matches (l .order) b _)
+part-is : (w : Sought) (d o r : List ℕ) (l : Look) (c : Bool) → l .stretch .sure ≡ c
+    → keep (isSought w (l .stretch .sure)) (rows (partOf (w .bounds) d o r l)) ≡ lookMatches (isSought w) d o r l
+unfolding partOf lookMatches lookWords stretchMatches
+part-is w d o r l true e = rw e refl
+part-is w d o r l false e = rw e (cut-matches (isSought w false) (w .bounds) _ (sought-outside w) (l .order))
 
 -- for look k of a level, and the part that the code has made for it
-pub look-seen : (b : Bounds) (d o r : List ℕ) (s : Stretches) (k : ℕ) {l : Look} {part : List ℕ} → l ≡ lookAt s k → part ≡ partOf b d o r l
-    → keepUnless (l .stretch .sure) (inside b) (rows part) ≡ levelLook (inside b) d o r s k
-look-seen b d o r s k {l} e f = rw f (part-is b d o r l (l .stretch .sure) refl) ∙ ap (lookMatches (inside b) d o r) e
+pub look-seen : (w : Sought) (d o r : List ℕ) (s : Stretches) (k : ℕ) {l : Look} {part : List ℕ} → l ≡ lookAt s k → part ≡ partOf (w .bounds) d o r l
+    → keep (isSought w (l .stretch .sure)) (rows part) ≡ levelLook (isSought w) d o r s k
+look-seen w d o r s k {l} e f = rw f (part-is w d o r l (l .stretch .sure) refl) ∙ ap (lookMatches (isSought w) d o r) e
 
-pub none-kept : (sure : Bool) (t : Trip → Bool) → keepUnless sure t [] ≡ []
-unfolding keepUnless keep
-none-kept true t = refl
-none-kept false t = refl
+pub none-kept : (t : Trip → Bool) → keep t [] ≡ []
+unfolding keep
+none-kept t = refl
 
 no-rows : rows [] ≡ []
 unfolding rows upTo
 no-rows = refl
 
 -- without entries it has no matches
-bare-none : (t : Trip → Bool) (d a : List ℕ) (s : Stretch) → getD d (s .from) 0 ≡ getD d (s .to) 0 → stretchMatches t d a s ≡ []
+bare-none : (t : Bool → Trip → Bool) (d a : List ℕ) (s : Stretch) → getD d (s .from) 0 ≡ getD d (s .to) 0 → stretchMatches t d a s ≡ []
 unfolding stretchMatches partWords
 bare-none t d a s e =
     let nothing : entryWords * getD d (s .to) 0 - entryWords * getD d (s .from) 0 ≡ 0 = rw e (omega arith) in
-    rw (nothing, no-rows) (none-kept (s .sure) t)
+    rw (nothing, no-rows) (none-kept (t (s .sure)))
 
 -- ---- a partition's stretch: front and back
-
-unless-append : (sure : Bool) (t : Trip → Bool) (a b : List Trip) → keepUnless sure t (a ++ b) ≡ keepUnless sure t a ++ keepUnless sure t b
-unfolding keepUnless
-unless-append true t a b = refl
-unless-append false t a b = keep-append t a b
 
 front-all : (s : Stretch) → s .sure ≡ true → frontEnd s ≡ s .to
 front-all s e = rw e refl
@@ -71,16 +66,16 @@ front-in : (s : Stretch) → s .sure ≡ false → frontEnd s ≡ afterIn s
 front-in s e = rw e refl
 
 module _ {h : Half} {d l : List ℕ} {s : Stretch} (w : SlotsThere h d l s) where
-  two-slots : (t : Trip → Bool) → stretchMatches t d l s ≡ stretchMatches t d l (inSlot s) ++ stretchMatches t d l (aftSlot s)
+  two-slots : (t : Bool → Trip → Bool) → stretchMatches t d l s ≡ stretchMatches t d l (inSlot s) ++ stretchMatches t d l (aftSlot s)
   unfolding stretchMatches partWords
   two-slots t =
       let a = getD d (s .from) 0 in
       let b = getD d (afterIn s) 0 in
       let c = getD d (s .to) 0 in
-      ap (keepUnless (s .sure) t) (rows-apart l a b c (w .in-there .rises) (w .aft-there .rises) (w .whole .room)) ∙ unless-append (s .sure) t _ _
+      ap (keep (t (s .sure))) (rows-apart l a b c (w .in-there .rises) (w .aft-there .rises) (w .whole .room)) ∙ keep-append (t (s .sure)) _ _
 
   -- where all is known to match the front is all of it, and elsewhere the "in" slot
-  looks-meet : (t : Trip → Bool) (c : Bool) → s .sure ≡ c
+  looks-meet : (t : Bool → Trip → Bool) (c : Bool) → s .sure ≡ c
       → stretchMatches t d l s ≡ stretchMatches t d l (frontOf s) ++ stretchMatches t d l (backOf s)
   looks-meet t true e = rw (front-all s e, bare-none t d l (stretch (s .to) (s .to) (s .sure)) refl, append-nil) refl
   looks-meet t false e = rw (front-in s e) (two-slots t)
@@ -94,7 +89,7 @@ module _ {h : Half} {d l : List ℕ} {s : Stretch} (w : SlotsThere h d l s) wher
       rw (front-all s e) (record { from-in = w .whole .to-in; to-in = w .whole .to-in; rises = omega arith; room = w .whole .room })
   back-at false e = rw (front-in s e) (w .aft-there)
 
-  two-looks : (t : Trip → Bool) → stretchMatches t d l s ≡ stretchMatches t d l (frontOf s) ++ stretchMatches t d l (backOf s)
+  two-looks : (t : Bool → Trip → Bool) → stretchMatches t d l s ≡ stretchMatches t d l (frontOf s) ++ stretchMatches t d l (backOf s)
   two-looks t = looks-meet t (s .sure) refl
 
   front-there : PartThere d l (s .from) (frontEnd s)
@@ -112,7 +107,7 @@ module _ {h : Half} {d l : List ℕ} {s : Stretch} (w : SlotsThere h d l s) wher
 -- ---- the looks of a level
 
 module _ {d o r : List ℕ} {s : Stretches} (w : AllThere d o r s) where
-  pub level-looks : (t : Trip → Bool) → levelMatches t d o r s ≡ fourMatches t d o r s
+  pub level-looks : (t : Bool → Trip → Bool) → levelMatches t d o r s ≡ fourMatches t d o r s
   unfolding levelMatches joined lookAt lookMatches fourMatches
   level-looks t = rw (two-looks (w .first) t, two-looks (w .last) t, two-looks (w .replicas) t) (simp append-assoc)
 
@@ -132,7 +127,7 @@ module _ {d o r : List ℕ} {s : Stretches} (w : AllThere d o r s) where
 
 -- ---- which of them have entries
 
-module _ (t : Trip → Bool) {d o r : List ℕ} {s : Stretches} (w : LevelThere d o r s) where
+module _ (t : Bool → Trip → Bool) {d o r : List ℕ} {s : Stretches} (w : LevelThere d o r s) where
   -- the words of the directory at the looks never fall, so those of a half are the same where its first and its last are
   originals-bare : getD d (s .first .from) 0 ≡ getD d (s .last .to) 0 → joined (levelLook t d o r s) originalLooks ≡ []
   unfolding joined lookAt lookMatches
@@ -202,7 +197,7 @@ module _ {d o r : List ℕ} {s : Stretches} (w : LevelThere d o r s) where
   next-there {k} h e = w .there k (omega (arith, from-to s d .1))
 
   -- the next look has room where the level has, in a list too into which those before it were listed
-  module _ (t : Trip → Bool) {k to : ℕ} (h : k < to) (e : to ≡ looksTo s d) where
+  module _ (t : Bool → Trip → Bool) {k to : ℕ} (h : k < to) (e : to ≡ looksTo s d) where
     all-room : {room : ℕ} → length (levelMatches t d o r s) ≤ room → length (joined (levelLook t d o r s) to) ≤ room
     all-room g = rw (e, none-after t w) g
 

@@ -1,10 +1,10 @@
 -- A loop over the entries of a part that lists, or counts, those that pass a test: its start, one turn, and its end.
 use mathlib.Core.Path.{_≡_, refl, sym, ap, _∙_}
-use mathlib.Core.Bool.{Bool, true, false}
+use mathlib.Core.Bool.{Bool, true, false, cond}
 use mathlib.Core.List.{List, [], _∷_}
 use Prim.Native.Nat.{ℕ, _+_, _/_, _≤_, _<_}
 use native.Mathlib.Omega.{arith}
-use lib.ListN.{length, set, length-append}
+use lib.ListN.{length, set, length-append, length-set}
 use Rattle.lists.specs.Lists.{keep, upTo, over}
 use Rattle.lists.proofs.Kept.{kept, kept-hit, kept-miss, kept-le}
 use Rattle.trip.specs.declared.Trip.{Trip}
@@ -12,6 +12,11 @@ use Rattle.layout.specs.Words.{entryWords, tripAt, rows}
 use Rattle.store.specs.Entries.{ids}
 use Rattle.walk.specs.Part.{Listed}
 use Rattle.walk.proofs.Written.{ids-append, ids-length, over-put, listed-length}
+
+-- an id put where a test passes leaves the list as long
+pub put-length : (b : Bool) (out : List ℕ) (at v : ℕ) → length (cond b (set out at v) out) ≡ length out
+put-length true out at v = length-set out at v
+put-length false out at v = refl
 
 module _ (t : Trip → Bool) (l : List ℕ) where
   -- the matches among the first i entries, and among all
@@ -59,3 +64,16 @@ module _ (t : Trip → Bool) (l : List ℕ) where
 
   pub miss-listed : (i : ℕ) {old out : List ℕ} {c : ℕ} → Listed (found i) old out c → t (tripAt l i) ≡ false → Listed (found (i + 1)) old out c
   miss-listed i so-far e = rw (kept-miss t (tripAt l) i e) so-far
+
+  -- a turn that lists where the test passes
+  module _ {old out : List ℕ} {i c : ℕ} (so-far : Listed (found i) old out c) (i< : i < length l / entryWords)
+      (room : length (keep t (rows l)) ≤ length old) {b : Bool} (e : b ≡ t (tripAt l i)) where
+    pub turn-room : b ≡ true → c < length out
+    turn-room p = hit-room so-far (sym e ∙ p) i< room
+
+    pub turn-listed : {v : ℕ} → v ≡ tripAt l i .id → Listed (found (i + 1)) old (cond b (set out c v) out) (cond b (c + 1) c)
+    turn-listed {v} f = go b (sym e)
+      where
+        go : (d : Bool) → t (tripAt l i) ≡ d → Listed (found (i + 1)) old (cond d (set out c v) out) (cond d (c + 1) c)
+        go true q = hit-listed so-far q i< room f
+        go false q = miss-listed i so-far q

@@ -211,22 +211,22 @@ within-is ends bounds part lo hi to p q a b c d =
     (λ j h k. too-late ends bounds (tripAt part j) (q .rest j (omega arith) k))
     (λ j h k. in-time ends bounds (tripAt part j) (p .rest j h (omega arith)) (q .front j (d j h k)))
 
--- what is left of a slot has all its matches
-timely-matches : (ends : Bool) (bounds : Bounds) (part : List ℕ)
-    → keep (inside bounds) (rows (words (keep (timely ends bounds) (rows part)))) ≡ keep (inside bounds) (rows part)
-timely-matches ends bounds part =
-    ap (keep (inside bounds)) (rows-words (keep (timely ends bounds) (rows part)))
-    ∙ keep-after (inside bounds) (timely ends bounds) (outside ends bounds) (rows part)
+-- what is left of a slot has all that passes a test which nothing outside the bounds passes
+module _ (t : Trip → Bool) (bounds : Bounds) (part : List ℕ) (bounded : (u : Trip) → inside bounds u ≡ false → t u ≡ false) where
+  timely-matches : (ends : Bool) → keep t (rows (words (keep (timely ends bounds) (rows part)))) ≡ keep t (rows part)
+  timely-matches ends =
+      ap (keep t) (rows-words (keep (timely ends bounds) (rows part)))
+      ∙ keep-after t (timely ends bounds) (λ u e. bounded u (outside ends bounds u e)) (rows part)
 
-order-matches : (o : Order) (bounds : Bounds) (part : List ℕ) → keep (inside bounds) (rows (timelyOf o bounds part)) ≡ keep (inside bounds) (rows part)
-order-matches ByStart bounds part = timely-matches false bounds part
-order-matches ByEnd bounds part = timely-matches true bounds part
-order-matches Other bounds part = refl
+  order-matches : (o : Order) → keep t (rows (timelyOf o bounds part)) ≡ keep t (rows part)
+  order-matches ByStart = timely-matches false
+  order-matches ByEnd = timely-matches true
+  order-matches Other = refl
 
-pub cut-matches : (o : Order) (bounds : Bounds) (part : List ℕ) → keep (inside bounds) (rows (cutOf o bounds part)) ≡ keep (inside bounds) (rows part)
-unfolding cutOf
-cut-matches o bounds part = go (leb (length part) (entryWords * few))
-  where
-    go : (b : Bool) → keep (inside bounds) (rows (cond b part (timelyOf o bounds part))) ≡ keep (inside bounds) (rows part)
-    go true = refl
-    go false = order-matches o bounds part
+  pub cut-matches : (o : Order) → keep t (rows (cutOf o bounds part)) ≡ keep t (rows part)
+  unfolding cutOf
+  cut-matches o = go (leb (length part) (entryWords * few))
+    where
+      go : (b : Bool) → keep t (rows (cond b part (timelyOf o bounds part))) ≡ keep t (rows part)
+      go true = refl
+      go false = order-matches o

@@ -26,7 +26,7 @@ lookWords d o r l = partWords d (arenaOf (l .half) o r) (l .stretch .from) (l .s
 unfoldable pub partOf : Bounds → (directory originals replicas : List ℕ) → Look → List ℕ
 partOf b d o r l = cond (l .stretch .sure) (lookWords d o r l) (cutOf (l .order) b (lookWords d o r l))
 
-unfoldable pub lookMatches : (Trip → Bool) → (directory originals replicas : List ℕ) → Look → List Trip
+unfoldable pub lookMatches : (Bool → Trip → Bool) → (directory originals replicas : List ℕ) → Look → List Trip
 lookMatches t d o r l = stretchMatches t d (arenaOf (l .half) o r) (l .stretch)
 
 -- its words are there, and in its order where they are tested
@@ -36,10 +36,10 @@ pub record LookThere (d o r : List ℕ) (l : Look) : Type 0 where
 
 -- ---- the looks of a level
 
-abbrev pub levelLook : (Trip → Bool) → (directory originals replicas : List ℕ) → Stretches → (k : ℕ) → List Trip
+abbrev pub levelLook : (Bool → Trip → Bool) → (directory originals replicas : List ℕ) → Stretches → (k : ℕ) → List Trip
 levelLook t d o r s k = lookMatches t d o r (lookAt s k)
 
-unfoldable pub levelMatches : (Trip → Bool) → (directory originals replicas : List ℕ) → Stretches → List Trip
+unfoldable pub levelMatches : (Bool → Trip → Bool) → (directory originals replicas : List ℕ) → Stretches → List Trip
 levelMatches t d o r s = joined (levelLook t d o r s) looks
 
 -- all are there, and those at the originals stand side by side
@@ -57,10 +57,10 @@ looksTo s d = cond (eqb (getD d (s .replicas .from) 0) (getD d (s .replicas .to)
 
 -- ---- all levels of a plan, from the deepest up
 
-abbrev pub levelUp : (Trip → Bool) → (directory originals replicas : List ℕ) → Plan → (up : ℕ) → List Trip
+abbrev pub levelUp : (Bool → Trip → Bool) → (directory originals replicas : List ℕ) → Plan → (up : ℕ) → List Trip
 levelUp t d o r p up = levelMatches t d o r (stretchesAt p (p .low .0 - up))
 
-abbrev pub walkMatches : (Trip → Bool) → (directory originals replicas : List ℕ) → Plan → List Trip
+abbrev pub walkMatches : (Bool → Trip → Bool) → (directory originals replicas : List ℕ) → Plan → List Trip
 walkMatches t d o r p = joined (levelUp t d o r p) (p .low .0 + 1)
 
 pub record LevelsThere (d o r : List ℕ) (p : Plan) : Type 0 where

@@ -3,7 +3,7 @@
 //! A line is the call's name, its ruler, its numbers, then each buffer as its length and its words, single spaces. A ruler is
 //! `w m`, or `spread m lo hi`.
 
-use crate::model::ask::ask;
+use crate::model::ask::{ask, Question};
 use crate::model::build::build;
 use crate::model::check::check;
 use crate::model::edit::{add, remove};
@@ -14,11 +14,11 @@ use crate::model::view::{census, run};
 
 /// The numbers that each call can answer.
 pub const NUMBERS: [(&str, &[u32]); 7] = [
-    ("build", &[0, 1, 2, 3, 4, 5, 6, 7]),
+    ("build", &[0, 1, 2, 3, 4, 5, 6, 7, 16]),
     ("check", &[0, 1, 3, 8]),
-    ("add", &[0, 1, 2, 3, 4, 5, 6, 7, 8]),
+    ("add", &[0, 1, 2, 3, 4, 5, 6, 7, 8, 16]),
     ("remove", &[0, 1, 3, 8, 10]),
-    ("ask", &[0, 1, 3, 4, 5, 7, 8, 9]),
+    ("ask", &[0, 1, 3, 4, 5, 7, 8, 9, 17]),
     ("run", &[0, 1, 3, 8, 12]),
     ("census", &[0, 1, 3, 8]),
 ];
@@ -27,11 +27,11 @@ pub const NUMBERS: [(&str, &[u32]); 7] = [
 const SPREAD: &str = "spread";
 
 /// The words that each buffer of a call may have at the test port.
-const MOST_TABLE: usize = 12_300;
-const MOST_DIRECTORY: usize = 8_200;
-const MOST_ORIGINALS: usize = 12_300;
-const MOST_REPLICAS: usize = 60_000;
-const MOST_ANSWERS: usize = 4_100;
+pub const MOST_TABLE: usize = 16_400;
+pub const MOST_DIRECTORY: usize = 8_200;
+pub const MOST_ORIGINALS: usize = 16_400;
+pub const MOST_REPLICAS: usize = 60_000;
+pub const MOST_ANSWERS: usize = 4_100;
 
 #[derive(Clone, Debug, PartialEq)]
 pub enum Request {
@@ -39,7 +39,7 @@ pub enum Request {
     Check,
     Add { trip: Trip },
     Remove { id: u32 },
-    Ask { code: u32, start: u32, end: u32, answers: Vec<u32> },
+    Ask { question: Question, answers: Vec<u32> },
     Run { level: u32, partition: u32, subdivision: u32 },
     Census,
 }
@@ -83,9 +83,11 @@ impl Call {
         match &self.request {
             Request::Build { table } => push_buffer(&mut line, table),
             Request::Check | Request::Census => {}
-            Request::Add { trip } => push_words(&mut line, &[trip.id, trip.start, trip.end]),
+            Request::Add { trip } => push_words(&mut line, &trip.words()),
             Request::Remove { id } => push_words(&mut line, &[*id]),
-            Request::Ask { code, start, end, .. } => push_words(&mut line, &[*code, *start, *end]),
+            Request::Ask { question: Question { code, start, end, day }, .. } => {
+                push_words(&mut line, &[*code, *start, *end, *day])
+            }
             Request::Run { level, partition, subdivision } => {
                 push_words(&mut line, &[*level, *partition, *subdivision])
             }
@@ -117,9 +119,9 @@ impl Call {
                 text = opening(remove(ruler, *id, &mut index));
                 push_index(&mut text, &index);
             }
-            Request::Ask { code, start, end, answers } => {
+            Request::Ask { question, answers } => {
                 let mut answers = answers.clone();
-                let (reply, count) = ask(ruler, *code, *start, *end, &index, &mut answers);
+                let (reply, count) = ask(ruler, *question, &index, &mut answers);
                 text = opening(reply);
                 push_words(&mut text, &[count]);
                 push_buffer(&mut text, &answers);
@@ -155,25 +157,16 @@ impl Call {
             "build" => Request::Build { table: take_buffer(&mut rest, MOST_TABLE)? },
             "check" => Request::Check,
             "census" => Request::Census,
-            "add" => Request::Add {
-                trip: Trip {
-                    id: take_word(&mut rest)?,
-                    start: take_word(&mut rest)?,
-                    end: take_word(&mut rest)?,
-                },
-            },
+            "add" => Request::Add { trip: Trip::of_words(take_words(&mut rest)?) },
             "remove" => Request::Remove { id: take_word(&mut rest)? },
-            "ask" => Request::Ask {
-                code: take_word(&mut rest)?,
-                start: take_word(&mut rest)?,
-                end: take_word(&mut rest)?,
-                answers: Vec::new(),
-            },
-            "run" => Request::Run {
-                level: take_word(&mut rest)?,
-                partition: take_word(&mut rest)?,
-                subdivision: take_word(&mut rest)?,
-            },
+            "ask" => {
+                let [code, start, end, day] = take_words(&mut rest)?;
+                Request::Ask { question: Question { code, start, end, day }, answers: Vec::new() }
+            }
+            "run" => {
+                let [level, partition, subdivision] = take_words(&mut rest)?;
+                Request::Run { level, partition, subdivision }
+            }
             _ => return None,
         };
         let index = Index {
@@ -235,6 +228,14 @@ fn take_word(rest: &mut &[u32]) -> Option<u32> {
     let (first, others) = rest.split_first()?;
     *rest = others;
     Some(*first)
+}
+
+fn take_words<const MANY: usize>(rest: &mut &[u32]) -> Option<[u32; MANY]> {
+    let mut words = [0; MANY];
+    for word in &mut words {
+        *word = take_word(rest)?;
+    }
+    Some(words)
 }
 
 /// The numbers of a ruler, which is of the second kind where its word came before them.

@@ -14,6 +14,7 @@ use crate::program::{answers_of, end_of, run_session, start};
 use crate::random::Random;
 use crate::score::Score;
 use crate::session::session;
+use crate::session_tally::SessionTally;
 use crate::sums::Sums;
 use std::io::{self, BufWriter, Write};
 use std::thread;
@@ -21,13 +22,14 @@ use std::time::Duration;
 
 pub fn compare(probe: &str, program: &str, seed: u64, many: usize, options: &Options) -> io::Result<bool> {
     let calls = if probe == "-" { Score::default() } else { compare_calls(probe, seed, many, options.size, options)? };
-    let sessions = if program == "-" { Score::default() } else { compare_sessions(program, seed, options)? };
+    let sessions = if program == "-" { Score::default() } else { compare_sessions(program, seed, options)?.0 };
     Ok(closed(&calls, &sessions))
 }
 
 /// The whole trial of both programs: small calls, some large ones, windows under every code, words of one ruler under another,
-/// and sessions. Each call must have met each number that it can answer, under rulers of either kind; the counts of each window
-/// must add up; and words of another ruler must have been accepted and refused.
+/// and sessions. Each call must have met each number that it can answer, and each case of days must have come, under rulers of
+/// either kind; the counts of each window and day must add up; words of another ruler must have been accepted and refused; and
+/// sessions must have written every sort of answer.
 pub fn agree(probe: &str, program: &str, seed: u64, many: usize, options: &Options) -> io::Result<bool> {
     let mut calls = compare_calls(probe, seed, many, SMALL, options)?;
     calls.join(compare_calls(probe, seed + 1, many / LARGE_ONES, FULL, options)?);
@@ -35,11 +37,13 @@ pub fn agree(probe: &str, program: &str, seed: u64, many: usize, options: &Optio
     calls.join(rounds);
     let (handed, crossed) = compare_crossings(probe, seed + 3, many / CROSSINGS, options)?;
     calls.join(handed);
-    let sessions = compare_sessions(program, seed, options)?;
+    let (sessions, written) = compare_sessions(program, seed, options)?;
     calls.tally.print();
+    calls.days.print();
     crossed.print();
-    println!("windows under every code: the counts of {} of {} add up", sums.right, sums.right + sums.wrong);
-    let missing = [calls.tally.missing(), crossed.missing()].concat();
+    println!("windows and days under every code: the counts of {} of {} add up", sums.right, sums.right + sums.wrong);
+    written.print();
+    let missing = [calls.tally.missing(FULL), calls.days.missing(), crossed.missing(), written.missing()].concat();
     for text in &missing {
         println!("{}", text);
     }
@@ -156,6 +160,7 @@ where
             ProbeLine::Good(call) => {
                 let answer = with_fault(options.fault, || call.answer());
                 score.tally.count(call, &answer);
+                score.days.see(call, &answer);
                 (call.line(), answer)
             }
             ProbeLine::Bad(text) => (text.clone(), "bad line".to_string()),
@@ -196,17 +201,19 @@ fn write_lines<W: Write>(input: W, lines: impl Iterator<Item = ProbeLine>) -> io
     input.flush()
 }
 
-fn compare_sessions(command: &str, seed: u64, options: &Options) -> io::Result<Score> {
+fn compare_sessions(command: &str, seed: u64, options: &Options) -> io::Result<(Score, SessionTally)> {
     let mut score = Score::default();
+    let mut written = SessionTally::default();
     for k in 0..options.sessions {
         let input = session_input(seed, k);
         let expected = with_fault(options.fault, || session(&input));
+        written.count(&expected);
         let pieces = cut_into_pieces(seed, k, &input);
         let given = run_session(command, &pieces, options.wait)?;
         let name = format!("session {} of seed {}, in {} pieces", k, seed, pieces.len());
         score.count(&name, &escaped(&input), &escaped(&expected), &escaped(&given));
     }
-    Ok(score)
+    Ok((score, written))
 }
 
 /// Bytes as text on one line.

@@ -3,6 +3,7 @@
 mod call;
 mod compare;
 mod crossed;
+mod days_met;
 mod faults;
 mod generate;
 mod model;
@@ -12,6 +13,7 @@ mod random;
 mod score;
 mod selftest;
 mod session;
+mod session_tally;
 mod sums;
 mod tally;
 mod trials;
@@ -23,7 +25,8 @@ use std::process::exit;
 
 const USAGE: &str = "model vectors SEED N [--small] [--each K] [--every-code]
     prints N calls, each followed by a line with the expected answer; at most K of one call with one number under one kind of
-    ruler; then every window of a small ruler of each kind under every code, over every trip that it has
+    ruler, and the first of each case of days, and fails where one of these is missing; then every window of a small ruler of
+    each kind under every code, over every trip that it has
 model calls OUT_IN OUT_EXPECTED SEED N [--small]
     the same in two files: the calls, and the expected answers
 model sessions DIR SEED N
@@ -32,8 +35,9 @@ model compare PROBE SESSION SEED N [--small] [--sessions K] [--wait SECONDS] [--
     runs both programs and compares all they answer; - in place of a program leaves it out
 model agree PROBE SESSION SEED N [--sessions K] [--wait SECONDS] [--bad-lines]
     the same with N small calls, N / 20 large ones, N / 50 windows under every code and N / 20 calls with words of one ruler under
-    another; prints how often each call had each number under each kind of ruler, and fails where one never came, where the
-    counts of a window do not add up, and where words of another ruler were never accepted or never refused
+    another; prints how often each call had each number and how often each case of days came, under each kind of ruler, and
+    fails where one never came, where the counts of a window do not add up to the trips of the day, where words of another ruler
+    were never accepted or never refused, and where no session wrote some sort of answer
 model selftest
     tries the model itself
 model faults SEED N [--small]

@@ -12,7 +12,7 @@ pub struct Options {
     /// How long one answer of a program may take, in seconds.
     pub wait: u64,
     pub bad_lines: bool,
-    /// The most vectors of one call with one number, under rulers of one kind.
+    /// The most vectors of one call with one number, under rulers of one kind; the first of a case of days comes beside them.
     pub each: usize,
     /// Whether vectors of every window under every code follow.
     pub every_code: bool,
@@ -24,7 +24,7 @@ impl Options {
             words: Vec::new(),
             size: FULL,
             fault: None,
-            sessions: 200,
+            sessions: 240,
             wait: 300,
             bad_lines: false,
             each: usize::MAX,

@@ -1,5 +1,6 @@
 //! How many answers agreed and how many differed, and the first differences in full.
 
+use crate::days_met::DaysMet;
 use crate::tally::Tally;
 
 /// Differences shown in full; later ones are only counted.
@@ -12,6 +13,7 @@ pub struct Score {
     pub agreed: usize,
     pub differed: usize,
     pub tally: Tally,
+    pub days: DaysMet,
 }
 
 impl Score {
@@ -23,6 +25,7 @@ impl Score {
         self.agreed += other.agreed;
         self.differed += other.differed;
         self.tally.join(other.tally);
+        self.days.join(other.days);
     }
 
     /// Shows the first few differences.

@@ -1,7 +1,8 @@
-//! Document 01's session program, as a function from input bytes to output bytes.
+//! Document 01's session program, as a function from input bytes to output bytes. T and Q have the number more of T-07.
 
 use crate::faults::{planted, Fault};
-use crate::model::ask::ask;
+use crate::model::ask::{ask, Question};
+use crate::model::days::EVERY_DAY;
 use crate::model::edit::{add, remove};
 use crate::model::index::{directory_length, Index, Reply};
 use crate::model::ruler::Ruler;
@@ -17,7 +18,7 @@ enum Line {
     Ruler { ruler: Ruler },
     Add { trip: Trip },
     Remove { id: u32 },
-    Ask { code: u32, start: u32, end: u32 },
+    Ask { question: Question },
 }
 
 struct Open {
@@ -71,11 +72,21 @@ fn line(bytes: &[u8]) -> Option<Line> {
     match (fields[0], &numbers[..]) {
         (b"D", [_, m]) if *m > DEEPEST => None,
         (b"D", [w, m]) => Some(Line::Ruler { ruler: Ruler::Bits { w: *w, m: *m } }),
-        (b"T", [id, start, end]) => Some(Line::Add { trip: Trip { id: *id, start: *start, end: *end } }),
+        (b"T", [id, start, end, days]) => Some(add_line(*id, *start, *end, *days)),
+        (b"T", [id, start, end]) if planted(Fault::SessionOldForm) => Some(add_line(*id, *start, *end, EVERY_DAY)),
         (b"X", [id]) => Some(Line::Remove { id: *id }),
-        (b"Q", [code, start, end]) => Some(Line::Ask { code: *code, start: *start, end: *end }),
+        (b"Q", [code, start, end, day]) => Some(ask_line(*code, *start, *end, *day)),
+        (b"Q", [code, start, end]) if planted(Fault::SessionOldForm) => Some(ask_line(*code, *start, *end, 0)),
         _ => None,
     }
+}
+
+fn add_line(id: u32, start: u32, end: u32, days: u32) -> Line {
+    Line::Add { trip: Trip { id, start, end, days } }
+}
+
+fn ask_line(code: u32, start: u32, end: u32, day: u32) -> Line {
+    Line::Ask { question: Question { code, start, end, day } }
 }
 
 /// A u32 in 1 to 10 decimal digits. Leading zeros are digits like others.
@@ -109,7 +120,7 @@ fn answer(line: Line, open: &mut Option<Open>) -> (String, bool) {
     let text = match line {
         Line::Add { trip } => edit_text(add(state.ruler, trip, &mut state.index)),
         Line::Remove { id } => edit_text(remove(state.ruler, id, &mut state.index)),
-        Line::Ask { code, start, end } => ask_text(code, start, end, state),
+        Line::Ask { question } => ask_text(question, state),
         Line::Ruler { .. } => unreachable!("answered above"),
     };
     (text, false)
@@ -143,9 +154,9 @@ fn edit_text(reply: Reply) -> String {
     }
 }
 
-fn ask_text(code: u32, start: u32, end: u32, state: &Open) -> String {
+fn ask_text(question: Question, state: &Open) -> String {
     let mut answers = vec![0; MOST_ANSWERS];
-    let (reply, count) = ask(state.ruler, code, start, end, &state.index, &mut answers);
+    let (reply, count) = ask(state.ruler, question, &state.index, &mut answers);
     if reply.number != 0 {
         return edit_text(reply);
     }

@@ -1,7 +1,7 @@
 //! Drawn calls counted by name, kind of ruler and number of their answer, and which of those never came.
 
 use crate::call::{Call, NUMBERS};
-use crate::generate::Calls;
+use crate::generate::{Calls, Size};
 use crate::model::ruler::{Kind, KINDS};
 use std::collections::BTreeMap;
 
@@ -45,13 +45,17 @@ impl Tally {
         println!("calls under a ruler of w and m: {}, of m, lo and hi: {}", all(Kind::Bits), all(Kind::Spread));
     }
 
-    /// The calls that never had one of the numbers that they can have, under rulers of one kind.
-    pub fn missing(&self) -> Vec<String> {
+    /// The calls of a size that never had one of the numbers that they can have, under rulers of one kind.
+    pub fn missing(&self, size: Size) -> Vec<String> {
         let mut found = Vec::new();
         for (name, numbers) in &NUMBERS {
             for kind in KINDS {
                 for number in numbers.iter().filter(|number| self.of(name, kind, **number) == 0) {
-                    found.push(format!("{} {} never answered {}", name, kind.name(), number));
+                    // "Add: 4,096 trips already."
+                    let needs_most_trips = *name == "add" && *number == 2;
+                    if size.big || !needs_most_trips {
+                        found.push(format!("{} {} never answered {}", name, kind.name(), number));
+                    }
                 }
             }
         }

@@ -1,4 +1,4 @@
--- The bounds and the plan are the question's; what the walk lists, sorted, is the answer.
+-- What is sought and the plan are the question's; what the walk lists, sorted, is the answer.
 use mathlib.Core.Path.{sym, ap, _∙_}
 use mathlib.Core.List.{List}
 use Prim.Native.Nat.{ℕ, _-_, _*_}
@@ -22,11 +22,11 @@ use Rattle.ask.proofs.listed.Statement.{statement}
 use Rattle.ask.proofs.listed.Tie as tie
 
 -- the places that facts are taken from
-abbrev start-before-bounds-of : tie.After-bounds-of → tie.Start
-start-before-bounds-of c = c .before .before .before .before .before .before
+abbrev start-before-sought-by : tie.After-sought-by → tie.Start
+start-before-sought-by c = c .before .before .before .before .before .before
 
 abbrev start-before-trips-of : tie.After-trips-of → tie.Start
-start-before-trips-of c = start-before-bounds-of (c .before .before .before)
+start-before-trips-of c = start-before-sought-by (c .before .before .before)
 
 abbrev plan-for-before-room-for : tie.After-room-for → tie.After-plan-for
 plan-for-before-room-for c = c .before .before .before
@@ -38,10 +38,10 @@ abbrev plan-for-before-return-2 : tie.After-slice-known3 → tie.After-plan-for
 plan-for-before-return-2 c = plan-for-before-room-for (enum-told-before-sort-ids (c .before .before) .before .before)
 
 abbrev start-before-return-2 : tie.After-slice-known3 → tie.Start
-start-before-return-2 c = start-before-bounds-of (plan-for-before-return-2 c .before)
+start-before-return-2 c = start-before-sought-by (plan-for-before-return-2 c .before)
 
-bounds-of-requires : tie.Need-bounds-of-requires
-bounds-of-requires c κs =
+sought-by-requires : tie.Need-sought-by-requires
+sought-by-requires c κs =
     let s = c .before .before .before .before .before in
     let g = s .args in
     let x = index (g .directory .now) (g .originals .now) (g .replicas .now) in
@@ -55,7 +55,7 @@ bottom-requires c κs = search needs
 
 trips-of-requires : tie.Need-trips-of-requires
 trips-of-requires c κs =
-    let s = start-before-bounds-of (c .before .before) in
+    let s = start-before-sought-by (c .before .before) in
     let g = s .args in
     let x = index (g .directory .now) (g .originals .now) (g .replicas .now) in
     let deep = deep-ruler (g .ruler) (s .pre .0) in
@@ -66,7 +66,7 @@ room-for-requires c κs =
     let s = start-before-trips-of c in
     let g = s .args in
     let x = index (g .directory .now) (g .originals .now) (g .replicas .now) in
-    let same = same-listing (g .ruler) (s .pre .0) x (s .pre .1 .0) (g .question) (s .pre .1 .1) (c .before .before .before .bounds-of .ensures)
+    let same = same-listing (g .ruler) (s .pre .0) x (s .pre .1 .0) (g .question) (s .pre .1 .1) (c .before .before .before .sought-by .ensures)
     (c .before .before .plan-for .ensures) in
     let trips = c .trips-of .ensures ∙ ap (λ (m : ℕ). getD (g .directory .now) (2 * partitions m) 0) (c .before .bottom .ensures)
     ∙ trips-word (g .ruler) (s .pre .0) x (s .pre .1 .0) (g .question) (s .pre .1 .1) in
@@ -89,7 +89,7 @@ returns c =
     let g = s .args in
     let x = index (g .directory .now) (g .originals .now) (g .replicas .now) in
     let same = same-listing (g .ruler) (s .pre .0) x (s .pre .1 .0) (g .question) (s .pre .1 .1)
-    (plan-for-before-room-for (c .before .before .before .before) .before .bounds-of .ensures)
+    (plan-for-before-room-for (c .before .before .before .before) .before .sought-by .ensures)
     (plan-for-before-room-for (c .before .before .before .before) .plan-for .ensures) in
     let told = c .before .before .room .given .1 in
     let long = ap length same ∙ listing-length (g .ruler) (s .pre .0) x (s .pre .1 .0) (g .question) (s .pre .1 .1) in
@@ -105,7 +105,7 @@ list-levels-requires c κs =
     let g = s .args in
     let x = index (g .directory .now) (g .originals .now) (g .replicas .now) in
     let same = same-listing (g .ruler) (s .pre .0) x (s .pre .1 .0) (g .question) (s .pre .1 .1)
-    (plan-for-before-room-for (c .before .before .before) .before .bounds-of .ensures)
+    (plan-for-before-room-for (c .before .before .before) .before .sought-by .ensures)
     (c .before .before .before .before .before .before .plan-for .ensures) in
     let told = c .before .enum-told .given .1 in
     let room = c .before .before .before .room-for .ensures in (
@@ -138,7 +138,7 @@ cast-t16 c =
     let g = s .args in
     let x = index (g .directory .now) (g .originals .now) (g .replicas .now) in
     let same = same-listing (g .ruler) (s .pre .0) x (s .pre .1 .0) (g .question) (s .pre .1 .1)
-    (plan-for-before-return-2 c .before .bounds-of .ensures) (plan-for-before-return-2 c .plan-for .ensures) in
+    (plan-for-before-return-2 c .before .sought-by .ensures) (plan-for-before-return-2 c .plan-for .ensures) in
     let few = listing-few (g .ruler) (s .pre .0) x (s .pre .1 .0) (g .question) (s .pre .1 .1) in
     let most = trips-few (g .ruler) (s .pre .0) x (s .pre .1 .0) (g .question) (s .pre .1 .1) in
     omega (arith, ap length same, c .before .before .before .before .before .before .list-levels .ensures .counted)
@@ -152,7 +152,7 @@ returns-2 c =
     let g = s .args in
     let x = index (g .directory .now) (g .originals .now) (g .replicas .now) in
     let same = same-listing (g .ruler) (s .pre .0) x (s .pre .1 .0) (g .question) (s .pre .1 .1)
-    (plan-for-before-return-2 c .before .bounds-of .ensures) (plan-for-before-return-2 c .plan-for .ensures) in
+    (plan-for-before-return-2 c .before .sought-by .ensures) (plan-for-before-return-2 c .plan-for .ensures) in
     let told = enum-told-before-sort-ids (c .before .before) .enum-told .given .1 in
     let room = enum-told-before-sort-ids (c .before .before) .before .before .room-for .ensures in
     let long = ap length same ∙ listing-length (g .ruler) (s .pre .0) x (s .pre .1 .0) (g .question) (s .pre .1 .1) in
@@ -166,7 +166,7 @@ pub listed-spec : {M : Type 1} → statement M
 listed-spec =
     tie.close
     (tie.spec
-    bounds-of-requires
+    sought-by-requires
     plan-for-requires
     bottom-requires
     trips-of-requires

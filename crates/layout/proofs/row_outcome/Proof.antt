@@ -1,9 +1,10 @@
 -- The times first; past them what is left, in its order.
-use mathlib.Core.Path.{_≡_, sym, ap, _∙_}
+use mathlib.Core.Path.{_≡_, refl, sym, ap₂, _∙_}
 use mathlib.Core.Bool.{Bool, true, false}
 use borrow.Author.Tests.{not-true, not-false}
 use Rattle.ruler.specs.Ruler.{scale}
-use Rattle.layout.specs.declared.Refusal.the-variants.{IdTaken}
+use Rattle.trip.specs.Trips.{neverRuns}
+use Rattle.layout.specs.declared.Refusal.the-variants.{IdTaken, NoDays}
 use Rattle.layout.specs.declared.Outcome.the-variants.{Accepted}
 use Rattle.layout.specs.Refusals.{refuse, rowTestsBy}
 use Rattle.layout.proofs.TimesFirst.{untimely, timely}
@@ -26,11 +27,12 @@ returns c =
 
 -- past the times: by what the code found of each later test
 past : (c : tie.Else1) → let a = c .before .before .before .args in
-    (taken : Bool) → a .taken ≡ taken → refuse taken IdTaken (a .detail) Accepted ≡ rowTestsBy (scale (a .ruler)) (a .taken) (a .t) (a .detail) Accepted
+    (taken none : Bool) → a .taken ≡ taken → neverRuns (a .t) ≡ none
+    → refuse taken IdTaken (a .detail) (refuse none NoDays (a .detail) Accepted) ≡ rowTestsBy (scale (a .ruler)) (a .taken) (a .t) (a .detail) Accepted
 unfolding rowTestsBy
-past c taken e =
+past c taken none e f =
     let a = c .before .before .before .args in
-    ap (λ (v : Bool). refuse v IdTaken (a .detail) Accepted) (sym e)
+    ap₂ (λ (v w : Bool). refuse v IdTaken (a .detail) (refuse w NoDays (a .detail) Accepted)) (sym e) (sym f)
     ∙ timely (scale (a .ruler)) (a .t .start) (a .t .end) (a .detail) _ (c .before .before .time-outcome .ensures)
     (sym (c .before .is-accepted .ensures) ∙ not-false _ (c .if1 .left))
 
@@ -39,11 +41,23 @@ refused-requires c κs = search needs
 
 returns-2 : tie.Need-returns-2
 unfolding refuse
-returns-2 c = c .refused .ensures ∙ past (c .before .before) true (c .before .if2 .taken)
+returns-2 c = c .refused .ensures ∙ past (c .before .before) true _ (c .before .if2 .taken) refl
+
+never-runs-requires : tie.Need-never-runs-requires
+never-runs-requires c κs = search needs
+
+refused-requires-2 : tie.Need-refused-requires-2
+refused-requires-2 c κs = search needs
 
 returns-3 : tie.Need-returns-3
 unfolding refuse
-returns-3 c = past (c .before) false (c .if2 .left)
+returns-3 c =
+    c .refused2 .ensures
+    ∙ past (c .before .before .before .before) false true (c .before .before .before .if2 .left) (sym (c .before .before .never-runs .ensures) ∙ c .before .if3 .taken)
+
+returns-4 : tie.Need-returns-4
+unfolding refuse
+returns-4 c = past (c .before .before .before) false false (c .before .before .if2 .left) (sym (c .before .never-runs .ensures) ∙ c .if3 .left)
 
 pub row-outcome-spec : {M : Type 1} → statement M
 row-outcome-spec =
@@ -54,4 +68,7 @@ row-outcome-spec =
     returns
     refused-requires
     returns-2
-    returns-3)
+    never-runs-requires
+    refused-requires-2
+    returns-3
+    returns-4)

@@ -19,6 +19,9 @@ enum-known-numbers c = search needs
 enum-known-numbers-2 : tie.Need-enum-known-numbers-2
 enum-known-numbers-2 c = search needs
 
+enum-known-numbers-3 : tie.Need-enum-known-numbers-3
+enum-known-numbers-3 c = search needs
+
 enum-told-3 : tie.Need-enum-told-3
 enum-told-3 c = search needs
 
@@ -38,10 +41,13 @@ returns-4 : tie.Need-returns-4
 returns-4 c = cc
 
 returns-5 : tie.Need-returns-5
-returns-5 c = search needs
+returns-5 c = cc
 
 returns-6 : tie.Need-returns-6
 returns-6 c = search needs
+
+returns-7 : tie.Need-returns-7
+returns-7 c = search needs
 
 pub followed-by-spec : {M : Type 1} → statement M
 followed-by-spec =
@@ -52,6 +58,7 @@ followed-by-spec =
     enum-told-2
     enum-known-numbers
     enum-known-numbers-2
+    enum-known-numbers-3
     enum-told-3
     enum-told-4
     returns
@@ -59,4 +66,5 @@ followed-by-spec =
     returns-3
     returns-4
     returns-5
-    returns-6)
+    returns-6
+    returns-7)

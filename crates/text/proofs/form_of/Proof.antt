@@ -20,6 +20,9 @@ enum-told c = search needs
 enum-told-2 : tie.Need-enum-told-2
 enum-told-2 c = search needs
 
+enum-told-3 : tie.Need-enum-told-3
+enum-told-3 c = search needs
+
 -- one number
 returns : tie.Need-returns
 returns c = simp (c .before .before .numbers .given .1, eq-eqb _ _ (c .if1 .taken))
@@ -34,7 +37,7 @@ returns-3 c = simp (c .before .before .numbers2 .given .1, eq-eqb _ _ (c .if2 .t
 returns-4 : tie.Need-returns-4
 returns-4 c = simp (c .before .before .numbers2 .given .1, ne-eqb _ _ (c .if2 .left))
 
--- three numbers
+-- four numbers
 returns-5 : tie.Need-returns-5
 returns-5 c = simp (c .before .before .numbers3 .given .1, eq-eqb _ _ (c .if3 .taken))
 
@@ -48,12 +51,15 @@ returns-7 c =
     let p = c .before in
     simp (p .before .before .numbers3 .given .1, ne-eqb _ _ (p .if3 .left), ne-eqb _ _ (c .if4 .left))
 
--- none, and wrong ones
+-- none, three, and wrong ones
 returns-8 : tie.Need-returns-8
 returns-8 c = search needs
 
 returns-9 : tie.Need-returns-9
 returns-9 c = search needs
+
+returns-10 : tie.Need-returns-10
+returns-10 c = search needs
 
 pub form-of-spec : {M : Type 1} → statement M
 form-of-spec =
@@ -64,6 +70,7 @@ form-of-spec =
     enum-known-numbers-3
     enum-told
     enum-told-2
+    enum-told-3
     returns
     returns-2
     returns-3
@@ -72,4 +79,5 @@ form-of-spec =
     returns-6
     returns-7
     returns-8
-    returns-9)
+    returns-9
+    returns-10)

@@ -2,11 +2,15 @@
 
 use super::buffers::{dirty, dirty_index};
 use super::borders::{cell_length, first_time, last_time};
+use super::days::{day, day_word};
 use super::made::{index_of, needed_words};
 use super::rulers::wide_ruler;
 use super::times::window;
 use crate::call::{Call, Request};
+use crate::model::ask::Question;
+use crate::model::days::EVERY_DAY;
 use crate::model::edit::remove;
+use crate::model::relation::{CODES, G_OVERLAPS};
 use crate::model::ruler::{Kind, Ruler, MOST_TRIPS};
 use crate::model::trip::{words_of, Trip, ENTRY_WORDS};
 use crate::random::Random;
@@ -14,7 +18,10 @@ use crate::random::Random;
 pub fn scene(random: &mut Random, kind: Kind) -> Vec<Call> {
     let m = random.pick(&[0, 1, 3, 4, 6, 8, 10]);
     let ruler = wide_ruler(random, kind, m);
-    let rows = short_trips(random, ruler, MOST_TRIPS + 1);
+    let mut rows = short_trips(random, ruler, MOST_TRIPS + 1);
+    if random.once_in(2) {
+        rows.iter_mut().for_each(|trip| trip.days = EVERY_DAY);
+    }
     let full = &rows[..MOST_TRIPS];
     let over = rows[MOST_TRIPS];
     let mut calls = builds(random, ruler, full, over);
@@ -28,14 +35,17 @@ pub fn scene(random: &mut Random, kind: Kind) -> Vec<Call> {
     calls.push(call(Request::Run { level: 0, partition: 0, subdivision: 0 }));
     // 2 comes before what is wrong with the trip.
     calls.push(call(Request::Add { trip: over }));
-    calls.push(call(Request::Add { trip: Trip { id: full[0].id, start: last + 1, end: 0 } }));
+    calls.push(call(Request::Add { trip: Trip { days: 0, ..over } }));
+    calls.push(call(Request::Add { trip: Trip { id: full[0].id, start: last + 1, end: 0, days: 0 } }));
     for length in [MOST_TRIPS, MOST_TRIPS - 1, MOST_TRIPS + 1] {
         let answers = dirty(random, length);
-        calls.push(call(Request::Ask { code: 13, start: first, end: last, answers }));
+        let question = Question { code: G_OVERLAPS, start: first, end: last, day: day(random, full) };
+        calls.push(call(Request::Ask { question, answers }));
     }
     let (start, end) = window(random, ruler, full);
     let answers = dirty(random, MOST_TRIPS);
-    calls.push(call(Request::Ask { code: random.between(0, 13), start, end, answers }));
+    let question = Question { code: random.between(0, CODES - 1), start, end, day: day(random, full) };
+    calls.push(call(Request::Ask { question, answers }));
 
     // Room freed by a removal serves the next addition, to the last trip.
     let gone = random.pick(full);
@@ -61,17 +71,18 @@ fn id_twice(random: &mut Random, ruler: Ruler, full: &[Trip]) -> Vec<Call> {
     vec![build_call(random, ruler, words_of(&rows), originals, replicas), Call { ruler, request: Request::Check, index }]
 }
 
-/// A build of all, one word short of it, with an id twice at the very end, and with too many rows.
+/// A build of all, one word short of it, with an id twice and with no day at the very end, and with too many rows.
 fn builds(random: &mut Random, ruler: Ruler, full: &[Trip], over: Trip) -> Vec<Call> {
     let (originals, replicas) = needed_words(ruler, full);
     let mut calls = Vec::new();
     let table = words_of(full);
     calls.push(build_call(random, ruler, table.clone(), originals, replicas));
     calls.push(build_call(random, ruler, table.clone(), originals - 1, replicas));
-    let mut twice = table.clone();
-    let id_of_last = twice.len() - ENTRY_WORDS;
-    twice[id_of_last] = twice[0];
-    calls.push(build_call(random, ruler, twice, originals, replicas));
+    let last = MOST_TRIPS - 1;
+    for bad in [Trip { id: full[0].id, ..full[last] }, Trip { days: 0, ..full[last] }] {
+        let rows = [&full[..last], &[bad]].concat();
+        calls.push(build_call(random, ruler, words_of(&rows), originals, replicas));
+    }
     let mut longer = table.clone();
     longer.extend(words_of(&[over]));
     calls.push(build_call(random, ruler, longer, originals + ENTRY_WORDS, replicas));
@@ -101,7 +112,7 @@ pub fn short_trips(random: &mut Random, ruler: Ruler, many: usize) -> Vec<Trip> 
         let start = random.between(earliest, last);
         let length = random.between(0, longest).min(last - start);
         let id = first.wrapping_add(k.wrapping_mul(factor));
-        found.push(Trip { id, start, end: start + length });
+        found.push(Trip { id, start, end: start + length, days: day_word(random) });
     }
     found
 }

@@ -2,20 +2,21 @@
 
 use super::size::Size;
 use crate::model::index::{directory_length, Index};
+use crate::model::trip::ENTRY_WORDS;
 use crate::random::Random;
 
 /// A length near what is needed: exact most often, a word or an entry short, not a multiple of an entry,
 /// longer. Short ones are drawn only where they are asked for.
 pub fn length_near(random: &mut Random, size: Size, needed: usize, may_be_short: bool) -> usize {
     if may_be_short && random.once_in(6) {
-        let less = random.pick(&[1, 2, 3, 4, needed]);
+        let less = random.pick(&[1, 2, 3, ENTRY_WORDS, ENTRY_WORDS + 1, needed]);
         return needed.saturating_sub(less);
     }
     match random.below(8) {
         0 | 1 | 2 => needed,
         3 => needed + 1,
-        4 => needed + 2,
-        5 => needed + 3,
+        4 => needed + ENTRY_WORDS - 1,
+        5 => needed + ENTRY_WORDS,
         _ => needed + random.below(size.spare + 1),
     }
 }

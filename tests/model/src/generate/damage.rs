@@ -2,10 +2,11 @@
 
 use super::borders::first_time;
 use super::damage_slots::damage_slots;
+use super::days::day_word;
 use super::made::Made;
 use super::rulers::ruler_with;
 use crate::model::index::{partitions, Index};
-use crate::model::trip::ENTRY_WORDS;
+use crate::model::trip::{words_of, Trip, ENTRY_WORDS};
 use crate::random::Random;
 
 /// One kind of damage, at times two.
@@ -138,8 +139,8 @@ fn shorten(random: &mut Random, index: &mut Index) {
     arena.truncate(length);
 }
 
-/// The directory claims one entry more from some slot on. The zeros behind the entries then read as trip
-/// 0 [0, 0], which in an empty index can even be right, where 0 is a time; else trip 0 at the first time can.
+/// The directory claims one entry more from some slot on. The zeros behind the entries then read as trip 0 [0, 0], which runs on
+/// no day. A trip 0 at the first time can be right in an empty index, if it has a day.
 fn raise_total(random: &mut Random, m: u32, first_time: u32, index: &mut Index) {
     let half = 2 * partitions(m) + 1;
     let (first, end) = if random.once_in(3) { (half, 2 * half) } else { (0, half) };
@@ -151,7 +152,7 @@ fn raise_total(random: &mut Random, m: u32, first_time: u32, index: &mut Index) 
     }
     if random.once_in(2) {
         let arena = if first == 0 { &mut index.originals } else { &mut index.replicas };
-        arena.extend(&[0, first_time, first_time]);
+        arena.extend(point_at(random, 0, first_time));
     }
 }
 
@@ -169,16 +170,20 @@ fn entry_in_no_slot(random: &mut Random, m: u32, first_time: u32, index: &mut In
         for word in words.iter_mut() {
             *word = word.wrapping_add(1);
         }
-        arena.splice(0..0, [5, first_time, first_time]);
+        arena.splice(0..0, point_at(random, 5, first_time));
     }
 }
 
-/// Words whose threefold passes 2^32, or comes to rest at a small number after it.
+fn point_at(random: &mut Random, id: u32, time: u32) -> Vec<u32> {
+    words_of(&[Trip { id, start: time, end: time, days: day_word(random) }])
+}
+
+/// Words whose fourfold passes 2^32, and comes to rest at a small number after it or at a large one.
 fn huge_directory_word(random: &mut Random, m: u32, index: &mut Index) {
     let half = 2 * partitions(m) + 1;
     let any = random.below(2 * half);
     let k = random.pick(&[half - 1, 2 * half - 1, any]);
-    let huge = [0x5555_5555, 0x5555_5556, 0x5555_5557, 0x8000_0000, 0xaaaa_aaab, u32::MAX, 4097];
+    let huge = [0x3fff_ffff, 0x4000_0000, 0x4000_0001, 0x8000_0000, 0x8000_0001, 0xc000_0001, u32::MAX, 4097];
     index.directory[k] = random.pick(&huge);
 }
 

@@ -2,6 +2,8 @@
 //! right, and still no table gives these words.
 
 use super::borders::{cell_end, cell_start, first_time};
+use super::damage_days::{damage_days, other_days};
+use super::days::day_word;
 use super::made::{entry_words, Made};
 use super::tables::trips;
 use super::times::off_ruler;
@@ -11,7 +13,7 @@ use crate::random::Random;
 
 pub fn damage_slots(random: &mut Random, made: &mut Made) {
     let mut filled = slots(made.ruler, &made.trips);
-    match random.below(12) {
+    match random.below(14) {
         0 => filled = halves_of_two_tables(random, made, filled),
         1 | 2 | 3 => filled = slots_of_unlawful_trips(random, made),
         4 => {
@@ -19,6 +21,7 @@ pub fn damage_slots(random: &mut Random, made: &mut Made) {
             drop_entry(random, &mut filled);
             double_entry(random, &mut filled);
         }
+        5 | 6 => damage_days(random, &mut filled),
         _ => damage_entries(random, &mut filled),
     }
     if random.once_in(5) {
@@ -43,7 +46,7 @@ fn damage_entries(random: &mut Random, filled: &mut Slots) {
 }
 
 /// One half: that of the replicas more often.
-fn half<'a>(random: &mut Random, filled: &'a mut Slots) -> &'a mut Vec<Vec<Trip>> {
+pub fn half<'a>(random: &mut Random, filled: &'a mut Slots) -> &'a mut Vec<Vec<Trip>> {
     if random.once_in(3) {
         &mut filled.originals
     } else {
@@ -52,7 +55,7 @@ fn half<'a>(random: &mut Random, filled: &'a mut Slots) -> &'a mut Vec<Vec<Trip>
 }
 
 /// The slots with at least this many entries.
-fn slots_with(half: &[Vec<Trip>], entries: usize) -> Vec<usize> {
+pub fn slots_with(half: &[Vec<Trip>], entries: usize) -> Vec<usize> {
     (0..half.len()).filter(|slot| half[*slot].len() >= entries).collect()
 }
 
@@ -72,7 +75,11 @@ fn double_entry(random: &mut Random, filled: &mut Slots) {
     if !known.is_empty() {
         let slot = random.pick(&known);
         let entry = random.below(half[slot].len());
-        let twin = half[slot][entry];
+        let mut twin = half[slot][entry];
+        if random.once_in(2) {
+            // The two differ in the day word alone.
+            twin.days = other_days(random, twin.days);
+        }
         half[slot].insert(entry, twin);
     }
 }
@@ -96,12 +103,15 @@ fn reorder_slot(random: &mut Random, filled: &mut Slots) {
 }
 
 fn other_order(random: &mut Random, slot: &mut [Trip]) {
-    match random.below(6) {
+    match random.below(9) {
         0 => slot.sort_by_key(|trip| trip.id),
         1 => slot.sort_by_key(|trip| (trip.start, trip.id)),
         2 => slot.sort_by_key(|trip| (trip.end, trip.id)),
         3 => slot.sort_by_key(|trip| (trip.start, !trip.id)),
         4 => slot.sort_by_key(|trip| (trip.end, !trip.id)),
+        5 => slot.sort_by_key(|trip| (trip.start, trip.days, trip.id)),
+        6 => slot.sort_by_key(|trip| (trip.end, trip.days, trip.id)),
+        7 => slot.sort_by_key(|trip| (trip.days, trip.id)),
         _ => {
             let entry = random.below(slot.len() - 1);
             slot.swap(entry, entry + 1);
@@ -120,10 +130,11 @@ fn change_entry(random: &mut Random, filled: &mut Slots) {
     let entry = random.below(half[slot].len());
     let trip = &mut half[slot][entry];
     let up = random.once_in(2);
-    let word = match random.below(3) {
+    let word = match random.below(4) {
         0 => &mut trip.id,
         1 => &mut trip.start,
-        _ => &mut trip.end,
+        2 => &mut trip.end,
+        _ => &mut trip.days,
     };
     *word = if up { word.wrapping_add(1) } else { word.wrapping_sub(1) };
 }
@@ -174,20 +185,25 @@ fn halves_of_two_tables(random: &mut Random, made: &Made, filled: Slots) -> Slot
     Slots { originals: filled.originals, replicas: slots(made.ruler, &others).replicas }
 }
 
-/// The slots of trips that no build accepts, filled as if it had: an id twice, a trip backward inside one
-/// cell, an end off the ruler.
+/// The slots of trips that no build accepts, filled as if it had: an id twice, with other days at times, a trip backward inside
+/// one cell, an end off the ruler, no day.
 fn slots_of_unlawful_trips(random: &mut Random, made: &Made) -> Slots {
     let ruler = made.ruler;
     let mut rows = made.trips.clone();
     if rows.is_empty() {
-        rows.push(Trip { id: 0, start: first_time(ruler), end: first_time(ruler) });
+        rows.push(Trip { id: 0, start: first_time(ruler), end: first_time(ruler), days: day_word(random) });
     }
     let row = random.below(rows.len());
-    match random.below(4) {
+    match random.below(6) {
         0 => {
             let twin = rows[row];
             rows.push(twin);
         }
+        3 => {
+            let twin = Trip { days: other_days(random, rows[row].days), ..rows[row] };
+            rows.push(twin);
+        }
+        4 => rows[row].days = 0,
         1 => {
             let other = random.below(rows.len());
             rows[row].id = rows[other].id;

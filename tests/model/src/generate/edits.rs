@@ -1,5 +1,6 @@
 //! Long histories of additions and removals on one index. The words go from call to call.
 
+use super::days::day_word;
 use super::made::{index_of, needed_words, new_id, Made};
 use super::questions::{any_code, question};
 use super::rows::spoil_addition;
@@ -8,6 +9,7 @@ use super::size::Size;
 use super::tables::trips;
 use super::times::{span, times_of, window};
 use crate::call::{Call, Request};
+use crate::model::days::EVERY_DAY;
 use crate::model::edit::{add, remove};
 use crate::model::trip::{trips_of, Trip, ENTRY_WORDS};
 use crate::random::Random;
@@ -53,11 +55,15 @@ fn history_start(random: &mut Random, size: Size) -> Made {
 pub fn addition(random: &mut Random, made: &Made) -> Call {
     let known = times_of(&made.trips);
     let (start, end) = span(random, made.ruler, &known);
-    let mut trip = Trip { id: new_id(random, &made.trips), start, end };
+    let mut trip = Trip { id: new_id(random, &made.trips), start, end, days: day_word(random) };
     if !made.trips.is_empty() && random.once_in(4) {
         let like = random.pick(&made.trips);
         trip.start = like.start;
         trip.end = like.end;
+        // On the days that the other leaves out.
+        if random.once_in(2) && like.days != EVERY_DAY {
+            trip.days = !like.days;
+        }
     }
     if random.once_in(6) {
         spoil_addition(random, made.ruler, &mut trip, &made.trips);

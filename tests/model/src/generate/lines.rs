@@ -1,13 +1,17 @@
 //! Lines that are no call, for probes: each is answered with `bad line` and the next line is read.
 
-use crate::call::Call;
+use crate::call::{Call, Request};
 use crate::model::ruler::Ruler;
 use crate::random::Random;
 
 /// A line of another form, made of a good one. A spoiled line that by chance is a call again is passed over.
 pub fn bad_probe_line(random: &mut Random, call: &Call) -> String {
     loop {
-        let line = if random.once_in(2) { spoiled_ruler(random, call) } else { spoiled_line(random, call) };
+        let line = match random.below(5) {
+            0 | 1 => spoiled_ruler(random, call),
+            2 | 3 => spoiled_line(random, call),
+            _ => spoiled_numbers(random, call),
+        };
         if Call::read(&line).is_none() {
             return line;
         }
@@ -55,6 +59,25 @@ fn spoiled_ruler(random: &mut Random, call: &Call) -> String {
         10 => format!("{} spread", line),
         _ => format!("spread {} {} {}{}", m, lo, hi, rest),
     }
+}
+
+/// A number too few, as additions and questions had before T-07, or one too many.
+fn spoiled_numbers(random: &mut Random, call: &Call) -> String {
+    let numbers = match call.request {
+        Request::Build { .. } | Request::Check | Request::Census => 0,
+        Request::Remove { .. } => 1,
+        Request::Run { .. } => 3,
+        Request::Add { .. } | Request::Ask { .. } => 4,
+    };
+    let head = call.head();
+    let line = call.line();
+    let mut fields: Vec<&str> = line[head.len()..].split_whitespace().collect();
+    if numbers > 0 && random.once_in(2) {
+        fields.remove(numbers - 1);
+    } else {
+        fields.insert(numbers, random.pick(&["0", "1", "31", "4294967295"]));
+    }
+    format!("{} {}", head, fields.join(" "))
 }
 
 fn misspelt(random: &mut Random) -> &'static str {

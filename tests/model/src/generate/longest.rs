@@ -2,13 +2,15 @@
 //! one original and 17 replicas. As many trips as a probe has room for.
 
 use super::buffers::{dirty, dirty_index};
+use super::days::day;
 use super::made::{index_of, needed_words, new_id};
 use super::rulers::wide_ruler;
 use super::tables::longest_trips;
 use super::times::window;
-use super::MOST_REPLICAS;
-use crate::call::{Call, Request};
+use crate::call::{Call, Request, MOST_REPLICAS};
+use crate::model::ask::Question;
 use crate::model::edit::remove;
+use crate::model::relation::G_OVERLAPS;
 use crate::model::ruler::{Kind, Ruler, DEEPEST};
 use crate::model::trip::{words_of, Trip, ENTRY_WORDS};
 use crate::random::Random;
@@ -43,6 +45,7 @@ pub fn scene(random: &mut Random, kind: Kind) -> Vec<Call> {
 fn requests(random: &mut Random, ruler: Ruler, trips: &[Trip]) -> Vec<Request> {
     let one_more = Trip { id: new_id(random, trips), ..random.pick(trips) };
     let (start, end) = window(random, ruler, trips);
+    let day = day(random, trips);
     let answers = dirty(random, trips.len());
     let level = random.between(2, ruler.m());
     vec![
@@ -50,8 +53,8 @@ fn requests(random: &mut Random, ruler: Ruler, trips: &[Trip]) -> Vec<Request> {
         Request::Census,
         Request::Run { level, partition: 1, subdivision: random.between(0, 3) },
         Request::Run { level, partition: (1 << level) - 2, subdivision: random.between(0, 3) },
-        Request::Ask { code: 13, start, end, answers: answers.clone() },
-        Request::Ask { code: random.between(0, 12), start, end, answers },
+        Request::Ask { question: Question { code: G_OVERLAPS, start, end, day }, answers: answers.clone() },
+        Request::Ask { question: Question { code: random.between(0, G_OVERLAPS - 1), start, end, day }, answers },
         Request::Add { trip: one_more },
         Request::Remove { id: random.pick(trips).id },
     ]

@@ -6,8 +6,11 @@ mod buffers;
 mod builds;
 pub mod crossings;
 mod damage;
+mod damage_days;
 mod damage_slots;
 mod damaged;
+mod day_cases;
+mod days;
 mod deep;
 mod edits;
 mod lines;
@@ -26,7 +29,7 @@ mod tables;
 mod times;
 mod views;
 
-use crate::call::{Call, Request};
+use crate::call::{Call, Request, MOST_ANSWERS, MOST_DIRECTORY, MOST_ORIGINALS, MOST_REPLICAS, MOST_TABLE};
 use crate::model::ruler::KINDS;
 use crate::random::Random;
 use std::collections::VecDeque;
@@ -37,12 +40,6 @@ pub use self::made::{made, Made};
 pub use self::size::{Size, FULL, SMALL};
 pub use self::tables::trips;
 pub use self::times::time;
-
-/// What every probe can hold. A call that needs more is left out.
-const MOST_DIRECTORY: usize = 8_200;
-const MOST_TABLE: usize = 12_300;
-const MOST_REPLICAS: usize = 60_000;
-const MOST_ANSWERS: usize = 4_100;
 
 /// The first two big scenes come early, so that a short run meets them with rulers of both kinds; the others are rare, as they
 /// are slow.
@@ -63,10 +60,11 @@ enum Scene {
     Sweep,
     Crossing,
     Deep,
+    Days,
 }
 
 /// Each scene with its weight. Some draw one call and some a hundred; the weights even that out.
-const SCENES: [(Scene, usize); 10] = [
+const SCENES: [(Scene, usize); 11] = [
     (Scene::Build, 330),
     (Scene::Damaged, 280),
     (Scene::Questions, 22),
@@ -77,6 +75,7 @@ const SCENES: [(Scene, usize); 10] = [
     (Scene::Crowd, 2),
     (Scene::Crossing, 60),
     (Scene::Deep, 5),
+    (Scene::Days, 8),
 ];
 
 /// An endless row of calls; the same seed and size give the same row.
@@ -124,6 +123,7 @@ impl Calls {
             Scene::Edits => edits::scene(random, self.size),
             Scene::Sweep => sweep::scene(random, self.size),
             Scene::Crossing => crossings::scene(random, self.size),
+            Scene::Days => day_cases::scene(random, self.size),
         }
     }
 
@@ -168,7 +168,7 @@ impl Iterator for Calls {
     }
 }
 
-/// Whether any probe can hold the call.
+/// Whether every probe can hold the call. One that needs more is left out.
 pub fn fits(call: &Call) -> bool {
     let own = match &call.request {
         Request::Build { table } => table.len() <= MOST_TABLE,
@@ -176,6 +176,6 @@ pub fn fits(call: &Call) -> bool {
         _ => true,
     };
     own && call.index.directory.len() <= MOST_DIRECTORY
-        && call.index.originals.len() <= MOST_TABLE
+        && call.index.originals.len() <= MOST_ORIGINALS
         && call.index.replicas.len() <= MOST_REPLICAS
 }

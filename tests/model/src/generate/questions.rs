@@ -1,13 +1,14 @@
 //! Questions over lawful indices: every code, windows at the turns, answer lists of every length.
 
 use super::buffers::dirty;
+use super::days::day;
 use super::made::{made, made_of, Made};
 use super::rulers::{ruler_with, small_ruler};
 use super::size::Size;
 use super::tables::{every_trip, scattered_trips};
 use super::times::{every_span, window};
 use crate::call::{Call, Request};
-use crate::model::ask::matches;
+use crate::model::ask::{matches, Question};
 use crate::model::relation::{CODES, G_OVERLAPS};
 use crate::random::Random;
 
@@ -72,7 +73,8 @@ pub fn any_code(random: &mut Random) -> u32 {
 }
 
 pub fn question(random: &mut Random, size: Size, made: &Made, code: u32, start: u32, end: u32) -> Call {
-    let found = if code < CODES { matches(code, start, end, &made.trips).len() } else { 0 };
+    let question = Question { code, start, end, day: day(random, &made.trips) };
+    let found = if code < CODES { matches(question, &made.trips).len() } else { 0 };
     let length = match random.below(8) {
         0 | 1 | 2 => found,
         3 => found.saturating_sub(1),
@@ -83,7 +85,7 @@ pub fn question(random: &mut Random, size: Size, made: &Made, code: u32, start: 
     let answers = dirty(random, length);
     Call {
         ruler: made.ruler,
-        request: Request::Ask { code, start, end, answers },
+        request: Request::Ask { question, answers },
         index: made.index.clone(),
     }
 }

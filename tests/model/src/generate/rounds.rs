@@ -1,13 +1,16 @@
-//! One window asked under every code, 0 to 13 in their order, each with a list that has room for all trips: first every
+//! One window on one day asked under every code, 0 to 13 in their order, each with a list that has room for all trips: first every
 //! window of small rulers over every trip that they have, then the most trips, then drawn ones.
 
 use super::big::short_trips;
 use super::buffers::dirty;
+use super::days::{half_of_the_days, lawful_day};
 use super::made::{made, made_of, Made};
 use super::size::{FULL, SMALL};
 use super::tables::every_trip;
 use super::times::{every_span, window};
 use crate::call::{Call, Request};
+use crate::model::ask::Question;
+use crate::model::days::LAST_DAY;
 use crate::model::relation::CODES;
 use crate::model::ruler::{Ruler, MOST_TRIPS};
 use crate::random::Random;
@@ -50,10 +53,37 @@ fn small_rulers() -> Vec<Ruler> {
 }
 
 /// Every window of a ruler, over every trip that it has.
-pub fn every_window_of(random: &mut Random, ruler: Ruler) -> Vec<Vec<Call>> {
+fn every_window_of(random: &mut Random, ruler: Ruler) -> Vec<Vec<Call>> {
     let trips = every_trip(random, ruler);
     let made = made_of(random, SMALL, ruler, trips);
-    every_span(ruler).iter().map(|&(start, end)| round(random, &made, start, end)).collect()
+    let mut found = Vec::new();
+    for (start, end) in every_span(ruler) {
+        let day = lawful_day(random, &made.trips);
+        found.push(round(random, &made, start, end, day));
+    }
+    found
+}
+
+/// Every window of two rulers with as many times, over every trip that they have. Under the second a trip runs on those days on
+/// which it does not under the first: so on a window's day each trip that stands so is listed under one of the two alone.
+pub fn every_window_of_two(seed: u64, rulers: [Ruler; 2]) -> Vec<Call> {
+    let mut calls = Vec::new();
+    for (number, ruler) in rulers.into_iter().enumerate() {
+        // The same numbers are drawn for both.
+        let mut random = Random::new(seed);
+        let mut trips = every_trip(&mut random, ruler);
+        for trip in &mut trips {
+            let days = half_of_the_days(&mut random);
+            trip.days = if number == 0 { days } else { !days };
+        }
+        let made = made_of(&mut random, SMALL, ruler, trips);
+        for (start, end) in every_span(ruler) {
+            let any = random.between(0, LAST_DAY);
+            let day = random.pick(&[0, LAST_DAY, any, any]);
+            calls.extend(round(&mut random, &made, start, end, day));
+        }
+    }
+    calls
 }
 
 fn most_trips(random: &mut Random, ruler: Ruler) -> Vec<Call> {
@@ -73,16 +103,18 @@ fn over(random: &mut Random, made: &Made) -> Vec<Call> {
     loop {
         let (start, end) = window(random, made.ruler, &made.trips);
         if start <= end && made.ruler.on_ruler(start) && made.ruler.on_ruler(end) {
-            return round(random, made, start, end);
+            let day = lawful_day(random, &made.trips);
+            return round(random, made, start, end, day);
         }
     }
 }
 
-fn round(random: &mut Random, made: &Made, start: u32, end: u32) -> Vec<Call> {
+fn round(random: &mut Random, made: &Made, start: u32, end: u32, day: u32) -> Vec<Call> {
     let mut calls = Vec::new();
     for code in 0..CODES {
         let room = made.trips.len() + random.below(3);
-        let request = Request::Ask { code, start, end, answers: dirty(random, room) };
+        let question = Question { code, start, end, day };
+        let request = Request::Ask { question, answers: dirty(random, room) };
         calls.push(Call { ruler: made.ruler, request, index: made.index.clone() });
     }
     calls

@@ -1,7 +1,9 @@
 //! Faults in the rows of a table, several at once at times, so that the order of refusals shows.
 
 use super::borders::last_time;
+use super::days::part_of_the_days;
 use super::times::{off_ruler, spoil_span};
+use crate::model::days::EVERY_DAY;
 use crate::model::ruler::Ruler;
 use crate::model::trip::{Trip, ENTRY_WORDS};
 use crate::random::Random;
@@ -20,7 +22,7 @@ pub fn spoil_rows(random: &mut Random, ruler: Ruler, trips: &mut [Trip]) {
 fn spoil_row(random: &mut Random, ruler: Ruler, trips: &mut [Trip], row: usize) {
     let earlier = if row == 0 { 0 } else { random.below(row) };
     let last = last_time(ruler);
-    match random.below(9) {
+    match random.below(13) {
         0 => trips[row].start = off_ruler(random, ruler),
         1 => trips[row].end = off_ruler(random, ruler),
         2 => {
@@ -34,6 +36,17 @@ fn spoil_row(random: &mut Random, ruler: Ruler, trips: &mut [Trip], row: usize) 
             make_backward(&mut trips[row], last);
             trips[row].id = trips[earlier].id;
         }
+        8 => {
+            // On other days the id is the same all the same.
+            trips[earlier].days = part_of_the_days(random);
+            trips[row].days = !trips[earlier].days;
+            trips[row].id = trips[earlier].id;
+        }
+        9 | 10 => trips[row].days = 0,
+        11 => {
+            trips[row].id = trips[earlier].id;
+            trips[row].days = 0;
+        }
         _ => {
             trips[row].id = trips[earlier].id;
             trips[row].end = off_ruler(random, ruler);
@@ -42,7 +55,7 @@ fn spoil_row(random: &mut Random, ruler: Ruler, trips: &mut [Trip], row: usize) 
 }
 
 /// Start one past the end, where there is room for that.
-fn make_backward(trip: &mut Trip, last: u32) {
+pub fn make_backward(trip: &mut Trip, last: u32) {
     if trip.end < last {
         trip.start = trip.end + 1;
     } else {
@@ -51,10 +64,17 @@ fn make_backward(trip: &mut Trip, last: u32) {
     }
 }
 
-/// A trip for an addition: new and lawful, or with one or two faults.
+/// A trip for an addition, with one fault or more, or none: a known id on other days, no day, bad times.
 pub fn spoil_addition(random: &mut Random, ruler: Ruler, trip: &mut Trip, present: &[Trip]) {
     if !present.is_empty() && random.once_in(2) {
-        trip.id = random.pick(present).id;
+        let like = random.pick(present);
+        trip.id = like.id;
+        if like.days != EVERY_DAY {
+            trip.days = !like.days;
+        }
+    }
+    if random.once_in(2) {
+        trip.days = 0;
     }
     match random.below(4) {
         0 => {

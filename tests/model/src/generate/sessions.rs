@@ -1,20 +1,32 @@
 //! Inputs for the session program.
 
+use super::days::{day, day_word, no_day};
 use super::session_lines::{BAD_FIRST, BAD_LATER, REFUSED_FIRST, TOO_DEEP};
 use super::times::{spoil_span, window};
+use crate::model::days::{EVERY_DAY, LAST_DAY};
 use crate::model::ruler::Ruler;
 use crate::model::trip::Trip;
 use crate::random::Random;
 
-/// Document 01's own session.
-pub const EXAMPLE: &[u8] = b"D 6 4\nT 7 21 38\nT 3 20 20\nT 9 0 63\nT 4 39 40\n\
-Q 13 22 23\nQ 13 38 39\nQ 5 10 20\nX 3\nQ 13 0 63\nT 5 40 39\n";
+/// Document 01's own session, "with every bit set and day 0".
+pub const EXAMPLE: &[u8] = b"D 6 4\nT 7 21 38 4294967295\nT 3 20 20 4294967295\nT 9 0 63 4294967295\nT 4 39 40 4294967295\n\
+Q 13 22 23 0\nQ 13 38 39 0\nQ 5 10 20 0\nX 3\nQ 13 0 63 0\nT 5 40 39 4294967295\n";
+
+/// The same lines as they were before T-07, of which only D is a line now.
+const OLD_EXAMPLE: &[u8] = b"D 6 4\nT 7 21 38\nT 3 20 20\nQ 13 22 23\nX 3\n";
+
+/// A week: a trip on every day of it, one on working days, one at its end, and the same times on other days. Then days and day
+/// words that are refused, in their order among the other refusals.
+const WEEK: &[u8] = b"D 6 4\nT 1 20 30 127\nT 2 20 30 31\nT 3 20 30 96\nT 4 30 31 2147483648\n\
+Q 13 20 30 0\nQ 13 20 30 4\nQ 13 20 30 5\nQ 13 20 30 6\nQ 13 20 30 7\nQ 13 20 30 31\nQ 13 20 30 32\nQ 13 20 30 4294967295\n\
+Q 13 31 30 32\nQ 13 64 30 32\nQ 14 64 30 32\nT 5 1 1 0\nT 4 1 1 0\nT 4 1 1 1\nT 5 2 1 0\nT 5 64 1 0\n\
+X 4\nQ 13 20 30 31\nT 4 1 1 1\nQ 13 0 63 0\n";
 
 /// Longer than any part of the input that a program is likely to read at once.
 const LONG: usize = 70_000;
 
 /// The first round goes through every kind of line that ends a session, and through the other fixed ones.
-pub const FIRST_ROUND: usize = 200;
+pub const FIRST_ROUND: usize = 240;
 
 /// Session number k of a seed. The first is document 01's own. The first round comes in an order that
 /// depends on the seed, with mixed sessions between, so that a few sessions already are of many kinds.
@@ -59,7 +71,7 @@ pub fn fixed_input(random: &mut Random, kind: usize) -> Option<Vec<u8>> {
 }
 
 fn special_inputs() -> Vec<Vec<u8>> {
-    let zeros = [b"D 6 4\nT ".to_vec(), vec![b'0'; LONG], b"1 2 3\nX 1\n".to_vec()].concat();
+    let zeros = [b"D 6 4\nT ".to_vec(), vec![b'0'; LONG], b"1 2 3 4\nX 1\n".to_vec()].concat();
     let spaces = [b"D 6 4\n".to_vec(), vec![b' '; LONG], b"\nX 1\n".to_vec()].concat();
     let letters = [vec![b'T'; LONG], b"\n".to_vec()].concat();
     let no_newline = [b"D 6 4\nT 1 ".to_vec(), vec![b'1'; LONG]].concat();
@@ -72,10 +84,16 @@ fn special_inputs() -> Vec<Vec<u8>> {
         b"D 6 4".to_vec(),
         b"D 6 4\n".to_vec(),
         b"D 6 4\n\n".to_vec(),
-        b"D 6 4\r\nT 1 2 3\r\n".to_vec(),
-        b"D 0000000006 0000000004\nT 0000000001 0000000002 0000000003\nQ 0000000013 0000000002 2".to_vec(),
-        b"D 6 4\nT 4294967295 0 0\nT 0 0 0\nQ 13 0 0\nX 4294967295\nX 4294967295\nX 0\nQ 13 0 63".to_vec(),
+        OLD_EXAMPLE.to_vec(),
+        WEEK.to_vec(),
+        b"D 6 4\r\nT 1 2 3 4\r\n".to_vec(),
+        b"D 0000000006 0000000004\nT 0000000001 0000000002 0000000003 2147483648\nQ 0000000013 0000000002 2 0000000031".to_vec(),
+        b"D 6 4\nT 1 2 3 0000000000\nT 1 2 3 0000000001\nQ 13 0000000000 0000000063 0000000000\nQ 13 0 63 0000000032".to_vec(),
+        b"D 6 4\nT 4294967295 0 0 1\nT 0 0 0 1\nQ 13 0 0 0\nX 4294967295\nX 4294967295\nX 0\nQ 13 0 63 0".to_vec(),
+        b"D 6 4\nT 4294967295 4294967295 4294967295 4294967295\nQ 4294967295 4294967295 4294967295 4294967295".to_vec(),
         b"D 6 4\nT 1 2".to_vec(),
+        b"D 6 4\nT 1 2 3".to_vec(),
+        b"D 6 4\nQ 13 0 1".to_vec(),
         b"D 6 4\nX".to_vec(),
         zeros,
         spaces,
@@ -101,7 +119,7 @@ fn ended_later(random: &mut Random, bad: &[u8]) -> Vec<u8> {
     input.extend(bad);
     if bad.is_empty() || !random.once_in(3) {
         input.push(b'\n');
-        input.extend(b"T 1000 0 1\nQ 13 0 1\n");
+        input.extend(b"T 1000 0 1 1\nQ 13 0 1 0\n");
     }
     input
 }
@@ -175,6 +193,15 @@ fn push_line(random: &mut Random, input: &mut Vec<u8>, name: &str, numbers: &[u3
     input.push(b'\n');
 }
 
+/// A day word that is zero at times.
+fn session_days(random: &mut Random) -> u32 {
+    if random.once_in(12) {
+        0
+    } else {
+        day_word(random)
+    }
+}
+
 /// Lines that are all well formed; some are refused, which does not end the session.
 fn good_session(random: &mut Random, most: usize, last_newline: bool) -> Vec<u8> {
     let (w, m) = session_ruler(random);
@@ -190,9 +217,10 @@ fn good_session(random: &mut Random, most: usize, last_newline: bool) -> Vec<u8>
                 let small = random.below(20) as u32;
                 let any = random.word();
                 let id = random.pick(&[small, small, small, any, 0, u32::MAX]);
-                push_line(random, &mut input, "T", &[id, start, end]);
-                if start <= end && end < 1 << w {
-                    sent.push(Trip { id, start, end });
+                let trip = Trip { id, start, end, days: session_days(random) };
+                push_line(random, &mut input, "T", &trip.words());
+                if start <= end && end < 1 << w && trip.days > 0 {
+                    sent.push(trip);
                 }
             }
             4 | 5 => {
@@ -202,7 +230,8 @@ fn good_session(random: &mut Random, most: usize, last_newline: bool) -> Vec<u8>
             }
             _ => {
                 let code = if random.once_in(16) { random.pick(&[14, 15, u32::MAX]) } else { random.between(0, 13) };
-                push_line(random, &mut input, "Q", &[code, start, end]);
+                let day = day(random, &sent);
+                push_line(random, &mut input, "Q", &[code, start, end, day]);
             }
         }
     }
@@ -222,16 +251,20 @@ fn long_session(random: &mut Random, bad_line: bool) -> Vec<u8> {
         let id = random.below(24) as u32;
         let (start, end) = window(random, ruler, &[]);
         match random.below(4) {
-            0 | 1 => push_line(random, &mut input, "T", &[id, start, end]),
+            0 | 1 => {
+                let days = session_days(random);
+                push_line(random, &mut input, "T", &[id, start, end, days]);
+            }
             2 => push_line(random, &mut input, "X", &[id]),
             _ => {
                 let code = random.between(0, 13);
-                push_line(random, &mut input, "Q", &[code, start, end]);
+                let day = day(random, &[]);
+                push_line(random, &mut input, "Q", &[code, start, end, day]);
             }
         }
     }
     if bad_line {
-        input.extend(b"T 1 2\nQ 13 0 1\n");
+        input.extend(b"T 1 2 3\nQ 13 0 1 0\n");
     } else {
         input.pop();
     }
@@ -255,20 +288,26 @@ fn full_session(random: &mut Random, widest: bool) -> Vec<u8> {
             let start = random.between(0, times - 1);
             (start, random.between(start, times - 1))
         };
-        push_line(random, &mut input, "T", &[*id, start, end]);
+        // Every trip runs on the last day.
+        let days = day_word(random) | 1 << LAST_DAY;
+        push_line(random, &mut input, "T", &[*id, start, end, days]);
     }
-    push_line(random, &mut input, "Q", &[13, 0, times - 1]);
-    push_line(random, &mut input, "T", &[1000, 0, 0]);
-    push_line(random, &mut input, "T", &[ids[0], 0, 0]);
-    push_line(random, &mut input, "T", &[1000, 1, 0]);
+    for day in [LAST_DAY, 0, no_day(random)] {
+        push_line(random, &mut input, "Q", &[13, 0, times - 1, day]);
+    }
+    push_line(random, &mut input, "T", &[1000, 0, 0, 1]);
+    push_line(random, &mut input, "T", &[1000, 0, 0, 0]);
+    push_line(random, &mut input, "T", &[ids[0], 0, 0, 0]);
+    push_line(random, &mut input, "T", &[1000, 1, 0, 0]);
     let (start, end) = spoil_span(random, Ruler::Bits { w, m }, 1, 0);
-    push_line(random, &mut input, "T", &[1000, start, end]);
+    push_line(random, &mut input, "T", &[1000, start, end, 1]);
     push_line(random, &mut input, "X", &[ids[9]]);
-    push_line(random, &mut input, "T", &[1000, cell % times, times - 1]);
-    push_line(random, &mut input, "T", &[1001, 0, 0]);
+    push_line(random, &mut input, "T", &[1000, cell % times, times - 1, EVERY_DAY]);
+    push_line(random, &mut input, "T", &[1001, 0, 0, 1]);
     for code in 0..14 {
         let (start, end) = (random.between(0, times / 2), random.between(times / 2, times - 1));
-        push_line(random, &mut input, "Q", &[code, start, end]);
+        let day = day(random, &[]);
+        push_line(random, &mut input, "Q", &[code, start, end, day]);
     }
     input
 }

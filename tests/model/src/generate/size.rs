@@ -14,7 +14,7 @@ pub struct Size {
     pub big: bool,
 }
 
-pub const FULL: Size = Size { deepest: 10, trips: 40, spare: 14, edits: 120, big: true };
+pub const FULL: Size = Size { deepest: 10, trips: 40, spare: 18, edits: 120, big: true };
 
 /// For a probe that reads slowly.
-pub const SMALL: Size = Size { deepest: 3, trips: 6, spare: 7, edits: 30, big: false };
+pub const SMALL: Size = Size { deepest: 3, trips: 6, spare: 9, edits: 30, big: false };

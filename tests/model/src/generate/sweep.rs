@@ -6,6 +6,7 @@ use super::rulers::ruler_with;
 use super::size::Size;
 use super::tables::trips;
 use crate::call::{Call, Request};
+use crate::model::trip::ENTRY_WORDS;
 use crate::random::Random;
 
 /// Few words, so that the whole sweep is about a hundred calls.
@@ -44,7 +45,7 @@ pub fn scene(random: &mut Random, size: Size) -> Vec<Call> {
 fn small_index(random: &mut Random, size: Size) -> Made {
     let mut found = draw(random, size);
     for _ in 0..20 {
-        if found.trips.len() > 1 && found.index.replicas.len() > 3 {
+        if found.trips.len() > 1 && found.index.replicas.len() >= ENTRY_WORDS {
             break;
         }
         found = draw(random, size);

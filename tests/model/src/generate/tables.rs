@@ -1,7 +1,9 @@
-//! Lawful tables: times on the ruler, no trip backward, no id twice.
+//! Lawful tables: times on the ruler, no trip backward, no id twice, none without a day.
 
 use super::borders::{cell_end, cell_start, first_time, last_time};
+use super::days::{day_word, pair_up};
 use super::times::{every_span, span};
+use crate::model::days::EVERY_DAY;
 use crate::model::ruler::Ruler;
 use crate::model::trip::Trip;
 use crate::random::Random;
@@ -35,7 +37,12 @@ pub fn trips(random: &mut Random, ruler: Ruler, most: usize) -> Vec<Trip> {
         };
         known.push(start);
         known.push(end);
-        found.push(Trip { id, start, end });
+        found.push(Trip { id, start, end, days: day_word(random) });
+    }
+    match random.below(6) {
+        0 | 1 => pair_up(random, &mut found),
+        2 => found.iter_mut().for_each(|trip| trip.days = EVERY_DAY),
+        _ => {}
     }
     found
 }
@@ -54,7 +61,7 @@ pub fn scattered_trips(random: &mut Random, ruler: Ruler, many: usize) -> Vec<Tr
         }
         known.push(start);
         known.push(end);
-        found.push(Trip { id, start, end });
+        found.push(Trip { id, start, end, days: day_word(random) });
     }
     found
 }
@@ -64,7 +71,7 @@ pub fn longest_trips(random: &mut Random, ruler: Ruler, many: usize) -> Vec<Trip
     let mut found = Vec::new();
     for id in ids(random, many) {
         let (start, end) = crowded(random, ruler, widest_crowd(ruler.m()));
-        found.push(Trip { id, start, end });
+        found.push(Trip { id, start, end, days: day_word(random) });
     }
     found
 }
@@ -73,7 +80,7 @@ pub fn longest_trips(random: &mut Random, ruler: Ruler, many: usize) -> Vec<Trip
 pub fn every_trip(random: &mut Random, ruler: Ruler) -> Vec<Trip> {
     let spans = every_span(ruler);
     let names = ids(random, spans.len());
-    spans.iter().zip(names).map(|(&(start, end), id)| Trip { id, start, end }).collect()
+    spans.iter().zip(names).map(|(&(start, end), id)| Trip { id, start, end, days: day_word(random) }).collect()
 }
 
 /// Ids without a repetition, in several manners: rising, falling, mixed, any words, and the extremes.

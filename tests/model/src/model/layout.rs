@@ -1,5 +1,6 @@
 //! The words of the index of some trips.
 
+use super::days::EVERY_DAY;
 use super::index::{partition_number, partitions, Index};
 use super::places::places;
 use super::ruler::Ruler;
@@ -20,7 +21,7 @@ pub fn slots(ruler: Ruler, trips: &[Trip]) -> Slots {
         for place in places(ruler, trip) {
             let half = if place.original { &mut filled.originals } else { &mut filled.replicas };
             let aft = if place.inside { 0 } else { 1 };
-            half[2 * partition_number(place.level, place.partition) + aft].push(*trip);
+            half[2 * partition_number(place.level, place.partition) + aft].push(entry(trip, place.original));
         }
     }
     for slot in &mut filled.originals {
@@ -36,8 +37,20 @@ pub fn slots(ruler: Ruler, trips: &[Trip]) -> Slots {
     filled
 }
 
+/// A replica has its trip's words, the day word too.
+fn entry(trip: &Trip, original: bool) -> Trip {
+    if planted(Fault::ReplicaEveryDay) && !original {
+        return Trip { days: EVERY_DAY, ..*trip };
+    }
+    *trip
+}
+
 /// "O_in and O_aft by start then id."
 fn order_originals(slot: &mut [Trip]) {
+    if planted(Fault::OriginalsByDays) {
+        slot.sort_by_key(|trip| (trip.start, trip.days, trip.id));
+        return;
+    }
     if planted(Fault::TieOrder) {
         slot.sort_by_key(|trip| (trip.start, !trip.id));
         return;
@@ -47,6 +60,10 @@ fn order_originals(slot: &mut [Trip]) {
 
 /// "R_in by end then id."
 fn order_replicas_in(slot: &mut [Trip]) {
+    if planted(Fault::InByDays) {
+        slot.sort_by_key(|trip| (trip.end, trip.days, trip.id));
+        return;
+    }
     if planted(Fault::InByStart) {
         slot.sort_by_key(|trip| (trip.start, trip.id));
         return;
@@ -56,6 +73,10 @@ fn order_replicas_in(slot: &mut [Trip]) {
 
 /// "R_aft by id."
 fn order_replicas_aft(slot: &mut [Trip]) {
+    if planted(Fault::AftByDays) {
+        slot.sort_by_key(|trip| (trip.days, trip.id));
+        return;
+    }
     if planted(Fault::AftByStart) {
         slot.sort_by_key(|trip| (trip.start, trip.id));
         return;

@@ -21,11 +21,13 @@ enum Condition {
     MostTrips,
     OnRuler,
     Forward,
+    RunsSomeDay,
     OriginalPlace,
     OriginalOrder,
     IdsDiffer,
     ReplicaPlace,
     ReplicaKnown,
+    ReplicaDays,
     ReplicaInOrder,
     ReplicaAftOrder,
     ReplicaCount,
@@ -33,7 +35,7 @@ enum Condition {
 
 use self::Condition::*;
 
-const ALL: [Condition; 16] = [
+const ALL: [Condition; 18] = [
     StartsAtZero,
     NeverFalls,
     Fits,
@@ -42,17 +44,22 @@ const ALL: [Condition; 16] = [
     MostTrips,
     OnRuler,
     Forward,
+    RunsSomeDay,
     OriginalPlace,
     OriginalOrder,
     IdsDiffer,
     ReplicaPlace,
     ReplicaKnown,
+    ReplicaDays,
     ReplicaInOrder,
     ReplicaAftOrder,
     ReplicaCount,
 ];
 
 const CALLS: usize = 6_000;
+
+/// Originals of so many words make a slow check.
+const LARGE: usize = 3_000;
 
 pub fn conditions(report: &mut Report) {
     for size in [FULL, SMALL] {
@@ -66,7 +73,7 @@ pub fn conditions(report: &mut Report) {
             let right = check(ruler, index).number == 0;
             report.expect(passes(ruler, index, None) == right, "the conditions agree with the model");
             // Large indices are slow, and only one condition is about them: those with more than the most trips.
-            let large = index.originals.len() > 3_000;
+            let large = index.originals.len() > LARGE;
             let over = index.originals.len() > ENTRY_WORDS * MOST_TRIPS;
             for (times, condition) in noticed.iter_mut().zip(&ALL) {
                 if large && !(over && *condition == MostTrips) {
@@ -97,7 +104,7 @@ impl<'a> Half<'a> {
 
     /// The entries of a slot as far as there are any: with a condition left out, the words may say anything.
     fn slot(&self, number: usize) -> Vec<Trip> {
-        let entries = self.arena.len() / 3;
+        let entries = self.arena.len() / ENTRY_WORDS;
         let first = (self.words[number] as usize).min(entries);
         let end = (self.words[number + 1] as usize).min(entries);
         trips_of(&self.arena[ENTRY_WORDS * first..ENTRY_WORDS * end.max(first)])
@@ -141,6 +148,9 @@ fn passes(ruler: Ruler, index: &Index, without: Option<Condition>) -> bool {
             if asked(OnRuler) && !on_ruler || asked(Forward) && trip.start > trip.end {
                 return false;
             }
+            if asked(RunsSomeDay) && trip.days.count_ones() == 0 {
+                return false;
+            }
             if asked(OriginalPlace) && !lies_in(ruler, trip, number, true) {
                 return false;
             }
@@ -148,7 +158,8 @@ fn passes(ruler: Ruler, index: &Index, without: Option<Condition>) -> bool {
         }
         trips.extend(slot);
     }
-    let known: BTreeSet<[u32; ENTRY_WORDS]> = trips.iter().map(|trip| [trip.id, trip.start, trip.end]).collect();
+    let known: BTreeSet<(u32, u32, u32)> = trips.iter().map(id_and_times).collect();
+    let days: BTreeSet<(u32, u32)> = trips.iter().map(|trip| (trip.id, trip.days)).collect();
     for number in 0..replicas.slots() {
         let slot = replicas.slot(number);
         let in_order = number % 2 == 1 || slot.windows(2).all(|pair| end_id(&pair[0]) < end_id(&pair[1]));
@@ -160,7 +171,10 @@ fn passes(ruler: Ruler, index: &Index, without: Option<Condition>) -> bool {
             if asked(ReplicaPlace) && !lies_in(ruler, trip, number, false) {
                 return false;
             }
-            if asked(ReplicaKnown) && !known.contains(&[trip.id, trip.start, trip.end]) {
+            if asked(ReplicaKnown) && !known.contains(&id_and_times(trip)) {
+                return false;
+            }
+            if asked(ReplicaDays) && !days.contains(&(trip.id, trip.days)) {
                 return false;
             }
         }
@@ -181,6 +195,10 @@ fn is_time(ruler: Ruler, time: u32) -> bool {
         Ruler::Bits { w, .. } => time >> w == 0,
         Ruler::Spread { lo, hi, .. } => (lo..=hi).contains(&time),
     }
+}
+
+fn id_and_times(trip: &Trip) -> (u32, u32, u32) {
+    (trip.id, trip.start, trip.end)
 }
 
 fn start_id(trip: &Trip) -> (u32, u32) {

@@ -1,14 +1,15 @@
-//! The checked examples of document 01, all of them.
+//! The checked examples of document 01, all of them, "with every bit set and day 0".
 
 use super::report::Report;
-use crate::model::ask::ask;
+use crate::model::ask::{ask, Question};
 use crate::model::build::build;
 use crate::model::check::check;
+use crate::model::days::EVERY_DAY;
 use crate::model::edit::add;
 use crate::model::index::{directory_length, refusal, Index, ACCEPTED};
 use crate::model::places::{places, Place};
 use crate::model::ruler::Ruler;
-use crate::model::trip::{words_of, Trip};
+use crate::model::trip::{words_of, Trip, ENTRY_WORDS};
 use crate::model::view::{census, run};
 
 pub const M: u32 = 4;
@@ -27,8 +28,17 @@ pub fn example_trips() -> Vec<Trip> {
 }
 
 pub fn trip(id: u32, start: u32, end: u32) -> Trip {
-    Trip { id, start, end }
+    Trip { id, start, end, days: EVERY_DAY }
 }
+
+/// A question on day 0.
+pub fn question(code: u32, start: u32, end: u32) -> Question {
+    Question { code, start, end, day: 0 }
+}
+
+/// The words that the entries of these trips take: four originals and three replicas.
+pub const EXAMPLE_ORIGINALS: usize = 4 * ENTRY_WORDS;
+pub const EXAMPLE_REPLICAS: usize = 3 * ENTRY_WORDS;
 
 /// Dirty buffers, so that a word that build leaves alone would show.
 pub fn dirty_index(m: u32, originals: usize, replicas: usize) -> Index {
@@ -40,15 +50,19 @@ pub fn dirty_index(m: u32, originals: usize, replicas: usize) -> Index {
 }
 
 pub fn example_index() -> Index {
-    let mut index = dirty_index(M, 15, 12);
+    let mut index = dirty_index(M, EXAMPLE_ORIGINALS + 3, EXAMPLE_REPLICAS + 3);
     build(RULER, &words_of(&example_trips()), &mut index);
     index
 }
 
-/// The ids that a question lists; a refusal is given by its number.
+/// The ids that a question on day 0 lists; a refusal is given by its number.
 pub fn asked(ruler: Ruler, index: &Index, code: u32, start: u32, end: u32) -> Result<Vec<u32>, u32> {
+    listed(ruler, index, question(code, start, end))
+}
+
+pub fn listed(ruler: Ruler, index: &Index, question: Question) -> Result<Vec<u32>, u32> {
     let mut answers = vec![0; 8];
-    let (reply, count) = ask(ruler, code, start, end, index, &mut answers);
+    let (reply, count) = ask(ruler, question, index, &mut answers);
     if reply != ACCEPTED {
         return Err(reply.number);
     }
@@ -115,19 +129,19 @@ fn counts(report: &mut Report) {
     let (reply, given) = census(RULER, &example_index());
     report.expect(reply == ACCEPTED && given == right, "census of the example");
     let (reply, shown) = run(RULER, 3, 4, 2, &example_index());
-    report.expect(reply == ACCEPTED && shown == vec![7, 21, 38], "run of level 3, partition 4, R_in");
+    report.expect(reply == ACCEPTED && shown == trip(7, 21, 38).words(), "run of level 3, partition 4, R_in");
 }
 
 fn words_of_small_indices(report: &mut Report) {
-    let mut index = dirty_index(1, 3, 0);
-    let reply = build(bits(1, 1), &[5, 0, 0], &mut index);
+    let mut index = dirty_index(1, ENTRY_WORDS, 0);
+    let reply = build(bits(1, 1), &trip(5, 0, 0).words(), &mut index);
     report.expect(reply == ACCEPTED, "w = 1, m = 1 is accepted");
     report.expect(index.directory[..7] == [0, 0, 0, 1, 1, 1, 1], "w = 1, m = 1: originals half");
     report.expect(index.directory[7..] == [0; 7], "w = 1, m = 1: replicas half");
-    report.expect(index.originals == vec![5, 0, 0], "w = 1, m = 1: the entry");
+    report.expect(index.originals == trip(5, 0, 0).words(), "w = 1, m = 1: the entry");
 
-    let mut index = dirty_index(0, 3, 0);
-    let reply = build(bits(1, 0), &[5, 0, 1], &mut index);
+    let mut index = dirty_index(0, ENTRY_WORDS, 0);
+    let reply = build(bits(1, 0), &trip(5, 0, 1).words(), &mut index);
     report.expect(reply == ACCEPTED && index.directory == vec![0, 1, 1, 0, 0, 0], "w = 1, m = 0");
 
     for (originals, replicas) in [(0, 0), (4, 5)] {
@@ -142,12 +156,12 @@ fn words_of_small_indices(report: &mut Report) {
 fn past_midnight(report: &mut Report) {
     let (start, end) = (23 * 3600 + 40 * 60, 25 * 3600 + 10 * 60);
     report.expect((start, end) == (85_200, 90_600), "23:40:00 to 25:10:00 in seconds");
-    let mut index = dirty_index(10, 3, 60);
-    let reply = build(bits(18, 10), &[1, start, end], &mut index);
+    let mut index = dirty_index(10, ENTRY_WORDS, 80);
+    let reply = build(bits(18, 10), &trip(1, start, end).words(), &mut index);
     report.expect(reply == ACCEPTED, "a trip past midnight is accepted");
     report.expect(asked(bits(18, 10), &index, 13, 88_200, 88_800) == Ok(vec![1]), "it is found after midnight");
     report.expect(asked(bits(18, 10), &index, 13, 1_800, 2_400) == Ok(vec![]), "it is not found in the early morning");
-    let mut wrapped = dirty_index(10, 3, 60);
-    let reply = build(bits(18, 10), &[1, 85_200, 4_200], &mut wrapped);
-    report.expect(reply == refusal(5) && wrapped == dirty_index(10, 3, 60), "wrapped, it is refused");
+    let mut wrapped = dirty_index(10, ENTRY_WORDS, 80);
+    let reply = build(bits(18, 10), &trip(1, 85_200, 4_200).words(), &mut wrapped);
+    report.expect(reply == refusal(5) && wrapped == dirty_index(10, ENTRY_WORDS, 80), "wrapped, it is refused");
 }

@@ -3,6 +3,7 @@
 
 use super::report::Report;
 use crate::call::{probe_answer, Call, Request};
+use crate::days_met::DaysMet;
 use crate::generate::crossings::{crossings, PAIRS};
 use crate::generate::{bad_probe_line, fits, Calls, Size, ENTRIES_OF_THE_LONGEST, FULL, SMALL};
 use crate::model::check::check;
@@ -29,25 +30,36 @@ pub fn generator(report: &mut Report) {
         }
         let twice: Vec<Call> = Calls::new(22, size).take(300).collect();
         report.expect(Calls::new(22, size).take(300).eq(twice), "a seed gives the same calls again");
-        // 2 of an addition needs 4,096 trips.
-        let mut missing = tally_of(Calls::new(23, size), 10_000).missing();
-        missing.retain(|text| size.big || !text.starts_with("add") || !text.ends_with(" 2"));
+        let missing = tally_of(Calls::new(23, size), 10_000).missing(size);
         report.expect(missing.is_empty(), &missing.join(", "));
+        every_case_of_days(report, size);
         every_sort_of_ruler(report, size);
     }
     words_of_another_ruler(report);
 }
 
-/// A build on the deepest ruler of a thousand trips and more, of 18 entries each.
+/// Many of the longest trips; a probe has room for some more.
+const MANY: usize = 800;
+
+/// A build on the deepest ruler of so many trips and more, of 18 entries each.
 fn is_of_longest(call: &Call, kind: Kind) -> bool {
     match &call.request {
         Request::Build { table } if call.ruler.m() == DEEPEST && call.answer().starts_with("0 0") => {
             let trips = trips_of(table);
             let all = trips.iter().all(|trip| places(call.ruler, trip).len() == ENTRIES_OF_THE_LONGEST);
-            call.ruler.kind() == kind && trips.len() > 1_000 && all
+            call.ruler.kind() == kind && trips.len() > MANY && all
         }
         _ => false,
     }
+}
+
+/// A short run has them all.
+fn every_case_of_days(report: &mut Report, size: Size) {
+    let mut days = DaysMet::default();
+    for call in Calls::new(26, size).take(3_000) {
+        days.see(&call, &call.answer());
+    }
+    report.expect(days.missing().is_empty(), &days.missing().join(", "));
 }
 
 type Sort = (&'static str, fn(u32, u32, u32) -> bool);

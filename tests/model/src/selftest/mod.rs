@@ -1,6 +1,7 @@
 //! The model tried against document 01's examples and against properties that must hold of it.
 
 mod conditions;
+mod days;
 mod examples;
 mod generator;
 mod places;
@@ -15,10 +16,11 @@ mod sessions;
 use self::report::Report;
 
 pub fn selftest() -> bool {
-    let groups: [(&str, fn(&mut Report)); 10] = [
+    let groups: [(&str, fn(&mut Report)); 11] = [
         ("examples of document 01", examples::examples),
         ("readings of unclear places", readings::readings),
         ("readings of the second ruler", second_ruler::second_ruler),
+        ("days of a trip", days::days),
         ("session program", sessions::sessions),
         ("partitions of a trip", places::places_of_trips),
         ("builds, edits and questions", properties::properties),

@@ -3,14 +3,14 @@
 
 use super::report::Report;
 use crate::generate::{made, time, trips, Made, FULL};
-use crate::model::ask::ask;
+use crate::model::ask::{ask, Question};
 use crate::model::build::build;
 use crate::model::check::check;
 use crate::model::edit::{add, remove};
 use crate::model::index::{Index, ACCEPTED};
 use crate::model::layout::slots;
 use crate::model::ruler::Ruler;
-use crate::model::trip::{words_of, Trip};
+use crate::model::trip::{words_of, Trip, ENTRY_WORDS};
 use crate::model::view::{census, run};
 use crate::random::Random;
 use std::cmp::Ordering;
@@ -92,14 +92,29 @@ fn questions_equal_a_scan(report: &mut Report, random: &mut Random, made: &Made)
             end = start;
             start = earlier;
         }
-        let mut right: Vec<u32> =
-            made.trips.iter().filter(|trip| stands_so(code, start, end, trip)).map(|trip| trip.id).collect();
+        let day = random.between(0, 31);
+        let listed = |trip: &&Trip| stands_so(code, start, end, trip) && day_list(trip.days).contains(&day);
+        let mut right: Vec<u32> = made.trips.iter().filter(listed).map(|trip| trip.id).collect();
         right.sort();
         let mut answers = vec![123; right.len() + 1];
-        let (reply, count) = ask(made.ruler, code, start, end, &made.index, &mut answers);
+        let (reply, count) = ask(made.ruler, Question { code, start, end, day }, &made.index, &mut answers);
         let same = reply == ACCEPTED && count as usize == right.len() && answers[..right.len()] == right[..];
         report.expect(same && answers[right.len()] == 123, &format!("code {} equals a scan", code));
     }
+}
+
+/// The days of a word, by taking halves of it.
+fn day_list(days: u32) -> Vec<u32> {
+    let mut found = Vec::new();
+    let (mut left, mut day) = (days, 0);
+    while left > 0 {
+        if left % 2 == 1 {
+            found.push(day);
+        }
+        left /= 2;
+        day += 1;
+    }
+    found
 }
 
 /// The relationships said a second time, by how start stands to start, end to end and so on. The first thirteen
@@ -141,7 +156,7 @@ fn runs_equal_the_slots(report: &mut Report, made: &Made) {
             for subdivision in 0..4 {
                 let half = if subdivision < 2 { &filled.originals } else { &filled.replicas };
                 let right = words_of(&half[slot + subdivision as usize % 2]);
-                counts[level as usize][subdivision as usize] += right.len() as u32 / 3;
+                counts[level as usize][subdivision as usize] += (right.len() / ENTRY_WORDS) as u32;
                 let given = run(made.ruler, level, partition, subdivision, &made.index);
                 report.expect(given == (ACCEPTED, right), "a run is its slot");
             }

@@ -1,4 +1,5 @@
-//! Document 02, T-02: "exactly one of codes 0 to 12 holds for any window and trip, points too".
+//! Document 02, T-02: "exactly one of codes 0 to 12 holds for any window and trip, points too"; and T-07: the total "counts the
+//! trips that run that day".
 
 use super::report::Report;
 use crate::call::Call;
@@ -28,8 +29,17 @@ pub fn every_code(report: &mut Report) {
         }
         sums
     };
-    report.expect(sums(None).right == ROUNDS, "the counts of every window add up");
-    for fault in [Fault::OldMeets, Fault::OldMetBy, Fault::CountOffByOne, Fault::ReplicasListed, Fault::CellsCompared] {
+    report.expect(sums(None).right == ROUNDS, "the counts of every window and day add up");
+    for fault in [
+        Fault::OldMeets,
+        Fault::OldMetBy,
+        Fault::CountOffByOne,
+        Fault::ReplicasListed,
+        Fault::CellsCompared,
+        Fault::BitsFromOne,
+        Fault::LastDayRefused,
+        Fault::DayIgnoredBetween,
+    ] {
         report.expect(sums(Some(fault)).wrong > 0, &format!("the sums notice {:?}", fault));
     }
 }

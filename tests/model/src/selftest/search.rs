@@ -7,25 +7,29 @@ use crate::model::build::build;
 use crate::model::check::check;
 use crate::model::index::{directory_length, refusal, Index, ACCEPTED};
 use crate::model::ruler::Ruler;
+use crate::model::trip::{words_of, Trip, ENTRY_WORDS};
 use crate::random::Random;
 
 /// The ids that tables are made of. Changed words may hold others; then no table gives them, except where
 /// such a word is an id of the changed index, so changes keep to these words for ids.
 const IDS: [u32; 3] = [0, 1, 7];
 
+/// The day words that tables are made of. Rows with the first are refused.
+const DAY_WORDS: [u32; 3] = [0, 1, 6];
+
 /// The last time of the widest of these rulers. Tables with a time that a ruler does not have are refused.
 const LAST_TIME: u32 = 4;
 
 pub fn search(report: &mut Report) {
     let rulers = [
-        (bits(1, 0), 6, 0),
-        (bits(1, 1), 6, 2),
-        (bits(2, 1), 7, 3),
-        (bits(2, 2), 6, 7),
-        (spread(0, 0, 1), 6, 0),
-        (spread(1, 1, 3), 7, 3),
-        (spread(2, 0, 3), 6, 7),
-        (spread(2, 2, 4), 6, 7),
+        (bits(1, 0), 8, 0),
+        (bits(1, 1), 8, 3),
+        (bits(2, 1), 9, 4),
+        (bits(2, 2), 8, 9),
+        (spread(0, 0, 1), 8, 0),
+        (spread(1, 1, 3), 9, 4),
+        (spread(2, 0, 3), 8, 9),
+        (spread(2, 2, 4), 8, 9),
     ];
     for (ruler, originals, replicas) in rulers {
         let all = all_indices(ruler, originals, replicas);
@@ -49,15 +53,15 @@ fn all_indices(ruler: Ruler, originals: usize, replicas: usize) -> Vec<Index> {
     for id in IDS {
         for start in 0..=LAST_TIME {
             for end in 0..=LAST_TIME {
-                rows.push(vec![id, start, end]);
+                rows.extend(DAY_WORDS.map(|days| Trip { id, start, end, days }));
             }
         }
     }
     let mut tables = vec![Vec::new()];
     for one in &rows {
-        tables.push(one.clone());
+        tables.push(words_of(&[*one]));
         for other in &rows {
-            tables.push([&one[..], &other[..]].concat());
+            tables.push(words_of(&[*one, *other]));
         }
     }
     let mut found: Vec<Index> = Vec::new();
@@ -93,10 +97,13 @@ fn changed(random: &mut Random, index: &Index) -> Index {
     other
 }
 
+/// A word for this place of an arena, as if entries stood there.
 fn small_word(random: &mut Random, at: usize) -> u32 {
-    if at % 3 == 0 {
-        random.pick(&IDS)
-    } else {
-        random.between(0, LAST_TIME)
-    }
+    let entry = Trip {
+        id: random.pick(&IDS),
+        start: random.between(0, LAST_TIME),
+        end: random.between(0, LAST_TIME),
+        days: random.pick(&DAY_WORDS),
+    };
+    entry.words()[at % ENTRY_WORDS]
 }

@@ -1,6 +1,8 @@
 //! Document 02, T-09: the ruler of m, lo and hi, by examples worked out by hand and by its rule said another way.
 
-use super::examples::{asked, bits, dirty_index, example_trips, spread, trip, M, RULER};
+use super::examples::{
+    asked, bits, dirty_index, example_trips, question, spread, trip, EXAMPLE_ORIGINALS, EXAMPLE_REPLICAS, M, RULER,
+};
 use super::report::Report;
 use crate::call::probe_answer;
 use crate::model::ask::ask;
@@ -123,20 +125,20 @@ fn long_products(report: &mut Report) {
 /// lo and hi are times, and what lies outside gets 4, in words as they are and not less lo.
 fn times(report: &mut Report) {
     let ruler = spread(2, 10, 20);
-    let mut built = |table: &[u32], right| {
-        let mut index = dirty_index(2, 9, 9);
-        let reply = build(ruler, table, &mut index);
-        report.expect(reply == right, &format!("{:?}: {:?}", table, reply));
+    let mut built = |rows: &[Trip], right| {
+        let mut index = dirty_index(2, 12, 12);
+        let reply = build(ruler, &words_of(rows), &mut index);
+        report.expect(reply == right, &format!("{:?}: {:?}", rows, reply));
     };
-    built(&[1, 10, 20], ACCEPTED);
-    built(&[1, 10, 10, 2, 20, 20], ACCEPTED);
-    built(&[1, 9, 20], refusal_with(4, 0));
-    built(&[1, 10, 21], refusal_with(4, 0));
-    built(&[1, 10, 10, 2, 0, 5], refusal_with(4, 1));
-    built(&[1, 12, 9], refusal_with(4, 0));
-    built(&[1, 12, 11], refusal_with(5, 0));
-    let mut index = dirty_index(2, 6, 6);
-    build(ruler, &[1, 10, 20], &mut index);
+    built(&[trip(1, 10, 20)], ACCEPTED);
+    built(&[trip(1, 10, 10), trip(2, 20, 20)], ACCEPTED);
+    built(&[trip(1, 9, 20)], refusal_with(4, 0));
+    built(&[trip(1, 10, 21)], refusal_with(4, 0));
+    built(&[trip(1, 10, 10), trip(2, 0, 5)], refusal_with(4, 1));
+    built(&[trip(1, 12, 9)], refusal_with(4, 0));
+    built(&[trip(1, 12, 11)], refusal_with(5, 0));
+    let mut index = dirty_index(2, 8, 8);
+    build(ruler, &trip(1, 10, 20).words(), &mut index);
     report.expect(asked(ruler, &index, 13, 10, 10) == Ok(vec![1]), "a window at lo");
     report.expect(asked(ruler, &index, 13, 20, 20) == Ok(vec![1]), "a window at hi");
     report.expect(asked(ruler, &index, 13, 9, 20) == Err(4), "a window from before lo");
@@ -148,11 +150,11 @@ fn times(report: &mut Report) {
 /// m = 1 from 5 to 8: cell 0 is 5, 6, 7 and cell 1 is 8.
 fn words_by_hand(report: &mut Report) {
     let ruler = spread(1, 5, 8);
-    let mut index = dirty_index(1, 9, 0);
-    let reply = build(ruler, &[1, 5, 7, 2, 5, 8, 3, 8, 8], &mut index);
+    let mut index = dirty_index(1, 12, 0);
+    let reply = build(ruler, &[1, 5, 7, 1, 2, 5, 8, 2, 3, 8, 8, 3], &mut index);
     report.expect(reply == ACCEPTED, "three trips and no replica");
     report.expect(index.directory == vec![0, 1, 1, 2, 2, 3, 3, 0, 0, 0, 0, 0, 0, 0], "the directory");
-    report.expect(index.originals == vec![2, 5, 8, 1, 5, 7, 3, 8, 8], "the originals");
+    report.expect(index.originals == vec![2, 5, 8, 2, 1, 5, 7, 1, 3, 8, 8, 3], "the originals");
     // Two times and a thousand cells: a trip over both has all cells, and lies in the one partition of level 0.
     let found = places(spread(10, 41, 42), &trip(1, 41, 42));
     report.expect(found.len() == 1 && found[0].level == 0, "more cells than times");
@@ -175,7 +177,7 @@ fn under_two_rulers(report: &mut Report) {
         }
     }
     let mut answers = vec![0; 4];
-    report.expect(ask(second, 13, 0, 63, &index, &mut answers) == (refusal(4), 0), "63 is a time of one alone");
+    report.expect(ask(second, question(13, 0, 63), &index, &mut answers) == (refusal(4), 0), "63 is a time of one alone");
     let mut edited = index.clone();
     report.expect(add(second, trip(9, 0, 60), &mut edited) == ACCEPTED, "an edit under the second");
     report.expect(remove(RULER, 9, &mut edited) == ACCEPTED && edited == index, "and its removal under the first");
@@ -190,7 +192,7 @@ fn under_two_rulers(report: &mut Report) {
 }
 
 fn built(ruler: Ruler, rows: &[Trip]) -> Index {
-    let mut index = dirty_index(M, 15, 12);
+    let mut index = dirty_index(M, EXAMPLE_ORIGINALS, EXAMPLE_REPLICAS);
     build(ruler, &words_of(rows), &mut index);
     index
 }
@@ -201,8 +203,8 @@ fn lines(report: &mut Report) {
         let given = probe_answer(line);
         report.expect(given == right, &format!("{}: {}", line, given));
     };
-    answers("build spread 0 10 20 3 5 10 20 6 9 9 9 9 9 9 4 9 9 9 9 0", "0 0 6 0 1 1 0 0 0 4 5 10 20 0 0");
-    answers("build spread 0 20 20 3 5 20 20 6 9 9 9 9 9 9 3 9 9 9 0", "1 0 6 9 9 9 9 9 9 3 9 9 9 0");
+    answers("build spread 0 10 20 4 5 10 20 3 6 9 9 9 9 9 9 4 9 9 9 9 0", "0 0 6 0 1 1 0 0 0 4 5 10 20 3 0");
+    answers("build spread 0 20 20 4 5 20 20 3 6 9 9 9 9 9 9 4 9 9 9 9 0", "1 0 6 9 9 9 9 9 9 4 9 9 9 9 0");
     answers("check spread 4294967295 4294967295 4294967295 0 0 0", "1 0");
     answers("check spread 0 0 1 6 0 0 0 0 0 0 0 0", "0 0");
     for line in [

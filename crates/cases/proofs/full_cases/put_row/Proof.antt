@@ -32,6 +32,15 @@ mul-table-3 c = search needs
 slice-write-table-3 : tie.Need-slice-write-table-3
 slice-write-table-3 c = simp length-set (omega arith)
 
+add-table-3 : tie.Need-add-table-3
+add-table-3 c = search needs
+
+mul-table-4 : tie.Need-mul-table-4
+mul-table-4 c = search needs
+
+slice-write-table-4 : tie.Need-slice-write-table-4
+slice-write-table-4 c = simp length-set (omega arith)
+
 same-length : tie.Need-same-length
 same-length c = simp length-set (omega arith)
 
@@ -51,5 +60,8 @@ put-row-spec =
     add-table-2
     mul-table-3
     slice-write-table-3
+    add-table-3
+    mul-table-4
+    slice-write-table-4
     same-length
     returns)

@@ -12,7 +12,7 @@ same-requires-2 c κs = search needs
 
 returns : tie.Need-returns
 unfolding sameTrip
-returns c = rw (c .before .same .ensures, c .same2 .ensures)
+returns c = rw (c .before .before .before .same .ensures, c .before .before .same2 .ensures)
 
 pub same-spec : {M : Type 1} → statement M
 same-spec = tie.close (tie.spec same-requires same-requires-2 returns)

@@ -3,7 +3,7 @@ use mathlib.Core.Path.{_≡_, sym, ap, _∙_}
 use Prim.Native.Nat.{_-_, _≤_}
 use lib.ListN.{length, length-append}
 use Rattle.lists.specs.Lists.{joined}
-use Rattle.plan.specs.Bounds.{inside}
+use Rattle.plan.specs.Sought.{isSought}
 use Rattle.walk.specs.Levels.{levelLook, looksTo}
 use Rattle.walk.proofs.MatchesJoined.{row-more}
 use Rattle.walk.proofs.LooksMeet.{look-seen, none-before, none-after, from-to, originals-in, replicas-in, next-there, look-room}
@@ -13,11 +13,11 @@ use Rattle.walk.proofs.count.count_level.Statement.{statement}
 use Rattle.walk.proofs.count.count_level.Tie as tie
 
 abbrev Inv-loop : tie.InvT-loop
-Inv-loop bounds level directory originals replicas to count₀ k₀ count k = (k ≤ to) × (to ≡ looksTo level directory)
-    × (count ≡ length (joined (levelLook (inside bounds) directory originals replicas level) k))
+Inv-loop sought level directory originals replicas to count₀ k₀ count k = (k ≤ to) × (to ≡ looksTo level directory)
+    × (count ≡ length (joined (levelLook (isSought sought) directory originals replicas level) k))
 
 abbrev μ-loop : tie.MeasureT-loop
-μ-loop bounds level directory originals replicas to count₀ k₀ count k = to - k
+μ-loop sought level directory originals replicas to count₀ k₀ count k = to - k
 
 -- the places that facts are taken from
 abbrev start-before-loop : tie.At-loop Inv-loop μ-loop → tie.Start Inv-loop μ-loop
@@ -33,7 +33,7 @@ loop-holds : tie.Need-loop-holds Inv-loop μ-loop
 loop-holds c =
     let s = c .before .before .before .before .before in
     let g = s .args in
-    let f = levelLook (inside (g .bounds)) (g .directory .now) (g .originals .now) (g .replicas .now) (g .level) in
+    let f = levelLook (isSought (g .sought)) (g .directory .now) (g .originals .now) (g .replicas .now) (g .level) in
     let from = c .looks-from .ensures in
     let to = c .before .looks-to .ensures in
     let ahead = from-to (g .level) (g .directory .now) .0 in
@@ -55,11 +55,11 @@ add-count c =
     let s = start-before-loop (c .before .before .before .before .before) in
     let g = s .args in
     let q = c .before .before .before .before .before .loop in
-    let t = inside (g .bounds) in
+    let t = isSought (g .sought) in
     let d = g .directory .now in
     let o = g .originals .now in
     let r = g .replicas .now in
-    let seen = look-seen (g .bounds) d o r (g .level) (q .k) (c .before .before .before .look-at .ensures) (c .before .before .part-of .ensures) in
+    let seen = look-seen (g .sought) d o r (g .level) (q .k) (c .before .before .before .look-at .ensures) (c .before .before .part-of .ensures) in
     let few = simp length-append at (look-room (s .pre .0) t (c .before .before .before .before .loop-test .taken) (q .inv .1) (s .pre .1)) in
     omega (arith, c .count-part .ensures, ap length seen)
 
@@ -74,11 +74,11 @@ loop-again c =
     let s = start-before-loop (c .before .before .before .before .before) in
     let g = s .args in
     let q = c .before .before .before .before .before .loop in
-    let t = inside (g .bounds) in
+    let t = isSought (g .sought) in
     let d = g .directory .now in
     let o = g .originals .now in
     let r = g .replicas .now in
-    let seen = look-seen (g .bounds) d o r (g .level) (q .k) (c .before .before .before .look-at .ensures) (c .before .before .part-of .ensures) in
+    let seen = look-seen (g .sought) d o r (g .level) (q .k) (c .before .before .before .look-at .ensures) (c .before .before .part-of .ensures) in
     let n = simp length-append at (ap length (row-more (levelLook t d o r (g .level)) (q .k))) in
     (omega arith, q .inv .1, omega (arith, c .count-part .ensures, ap length seen))
 
@@ -87,7 +87,7 @@ returns c =
     let q = c .before .loop in
     let s = start-before-loop (c .before) in
     let g = s .args in
-    let f = levelLook (inside (g .bounds)) (g .directory .now) (g .originals .now) (g .replicas .now) (g .level) in
+    let f = levelLook (isSought (g .sought)) (g .directory .now) (g .originals .now) (g .replicas .now) (g .level) in
     let e : q .k ≡ looksTo (g .level) (g .directory .now) = omega (arith, q .inv .1) in
     q .inv .2 ∙ ap length (ap (joined f) e ∙ none-after _ (s .pre .0))
 

@@ -5,7 +5,7 @@ use Prim.Native.Nat.{ℕ, _+_, _-_, _≤_}
 use lib.ListN.{length, length-append}
 use Rattle.lists.specs.Lists.{joined}
 use Rattle.trip.specs.declared.Trip.{Trip}
-use Rattle.plan.specs.Bounds.{inside}
+use Rattle.plan.specs.Sought.{isSought}
 use Rattle.plan.specs.Plan.{stretchesAt}
 use Rattle.walk.specs.Levels.{levelUp}
 use Rattle.walk.proofs.MatchesJoined.{row-none, row-more, row-room}
@@ -15,11 +15,11 @@ use Rattle.walk.proofs.count.count_levels.Statement.{statement}
 use Rattle.walk.proofs.count.count_levels.Tie as tie
 
 abbrev Inv-loop : tie.InvT-loop
-Inv-loop bounds plan directory originals replicas m count₀ up₀ count up = (up ≤ m + 1) × (m ≡ plan .low .0)
-    × (count ≡ length (joined (levelUp (inside bounds) directory originals replicas plan) up))
+Inv-loop sought plan directory originals replicas m count₀ up₀ count up = (up ≤ m + 1) × (m ≡ plan .low .0)
+    × (count ≡ length (joined (levelUp (isSought sought) directory originals replicas plan) up))
 
 abbrev μ-loop : tie.MeasureT-loop
-μ-loop bounds plan directory originals replicas m count₀ up₀ count up = m + 1 - up
+μ-loop sought plan directory originals replicas m count₀ up₀ count up = m + 1 - up
 
 -- the places that facts are taken from
 abbrev start-before-loop : tie.At-loop Inv-loop μ-loop → tie.Start Inv-loop μ-loop
@@ -27,7 +27,7 @@ start-before-loop c = c .before .before .before .before .before .before
 
 -- what the levels list, from the deepest up
 abbrev level-row : tie.Start Inv-loop μ-loop → ℕ → List Trip
-level-row s = levelUp (inside (s .args .bounds)) (s .args .directory .now) (s .args .originals .now) (s .args .replicas .now) (s .args .plan)
+level-row s = levelUp (isSought (s .args .sought)) (s .args .directory .now) (s .args .originals .now) (s .args .replicas .now) (s .args .plan)
 
 level-requires : tie.Need-level-requires Inv-loop μ-loop
 level-requires c κs = search needs

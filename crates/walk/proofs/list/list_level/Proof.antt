@@ -3,7 +3,7 @@ use mathlib.Core.Path.{_≡_, refl, ap}
 use Prim.Native.Nat.{_-_, _≤_}
 use lib.ListN.{length}
 use Rattle.lists.specs.Lists.{joined}
-use Rattle.plan.specs.Bounds.{inside}
+use Rattle.plan.specs.Sought.{isSought}
 use Rattle.walk.specs.Part.{Listed}
 use Rattle.walk.specs.Levels.{levelLook, looksTo}
 use Rattle.walk.proofs.Written.{lent-room, lent-back, listed-none, listed-length, listed-more}
@@ -15,11 +15,11 @@ use Rattle.walk.proofs.list.list_level.Statement.{statement}
 use Rattle.walk.proofs.list.list_level.Tie as tie
 
 abbrev Inv-loop : tie.InvT-loop
-Inv-loop bounds level directory originals replicas out₀ to count₀ k₀ out count k = (k ≤ to) × (to ≡ looksTo level directory)
-    × (length out ≡ length out₀) × Listed (joined (levelLook (inside bounds) directory originals replicas level) k) out₀ out count
+Inv-loop sought level directory originals replicas out₀ to count₀ k₀ out count k = (k ≤ to) × (to ≡ looksTo level directory)
+    × (length out ≡ length out₀) × Listed (joined (levelLook (isSought sought) directory originals replicas level) k) out₀ out count
 
 abbrev μ-loop : tie.MeasureT-loop
-μ-loop bounds level directory originals replicas out₀ to count₀ k₀ out count k = to - k
+μ-loop sought level directory originals replicas out₀ to count₀ k₀ out count k = to - k
 
 -- the places that facts are taken from
 abbrev start-before-looks-from : tie.After-looks-from Inv-loop μ-loop → tie.Start Inv-loop μ-loop
@@ -87,11 +87,11 @@ list-part-requires c κs =
     let s = start-before-stretch (c .before) in
     let g = s .args in
     let q = c .before .before .before .before .before .loop in
-    let t = inside (g .bounds) in
+    let t = isSought (g .sought) in
     let d = g .directory .now in
     let o = g .originals .now in
     let r = g .replicas .now in
-    let seen = look-seen (g .bounds) d o r (g .level) (q .k) (c .before .before .before .look-at .ensures) (c .before .before .part-of .ensures) in
+    let seen = look-seen (g .sought) d o r (g .level) (q .k) (c .before .before .before .look-at .ensures) (c .before .before .part-of .ensures) in
     let fits = look-fits (s .pre .0) t (c .before .before .before .before .loop-test .taken) (q .inv .1) (q .inv .3) (s .pre .1) in
     omega (arith, ap length seen, lent-room (q .out) (q .count) _ fits)
 
@@ -100,12 +100,12 @@ add-count c =
     let s = start-before-stretch (c .before .before .before .before) in
     let g = s .args in
     let q = turn-before-out (c .before) .before .loop in
-    let t = inside (g .bounds) in
+    let t = isSought (g .sought) in
     let d = g .directory .now in
     let o = g .originals .now in
     let r = g .replicas .now in
     let look = c .before .before .before .before .before .before .look-at .ensures in
-    let seen = look-seen (g .bounds) d o r (g .level) (q .k) look (c .before .before .before .before .before .part-of .ensures) in
+    let seen = look-seen (g .sought) d o r (g .level) (q .k) look (c .before .before .before .before .before .part-of .ensures) in
     let taken = turn-before-out (c .before) .loop-test .taken in
     let fits = look-fits (s .pre .0) t taken (q .inv .1) (q .inv .3) (s .pre .1) in
     omega (arith, ap length seen, c .before .before .list-part .ensures .counted)
@@ -121,13 +121,13 @@ loop-again c =
     let s = start-before-stretch (c .before .before .before .before) in
     let g = s .args in
     let q = turn-before-out (c .before) .before .loop in
-    let t = inside (g .bounds) in
+    let t = isSought (g .sought) in
     let d = g .directory .now in
     let o = g .originals .now in
     let r = g .replicas .now in
     let taken = turn-before-out (c .before) .loop-test .taken in
     let look = c .before .before .before .before .before .before .look-at .ensures in
-    let seen = look-seen (g .bounds) d o r (g .level) (q .k) look (c .before .before .before .before .before .part-of .ensures) in
+    let seen = look-seen (g .sought) d o r (g .level) (q .k) look (c .before .before .before .before .before .part-of .ensures) in
     let room = look-room (s .pre .0) t taken (q .inv .1) (s .pre .1) in
     let k = rw seen at (c .before .before .list-part .ensures) in
     let more = listed-more (q .inv .3) (lent-back (q .out) (q .count) k) in
@@ -142,7 +142,7 @@ returns c =
     let s = start-before-looks-from (c .before .before) in
     let g = s .args in
     let e : q .k ≡ looksTo (g .level) (g .directory .now) = omega (arith, q .inv .1) in
-    rw (e, none-after (inside (g .bounds)) (s .pre .0)) at (q .inv .3)
+    rw (e, none-after (isSought (g .sought)) (s .pre .0)) at (q .inv .3)
 
 pub list-level-spec : {M : Type 1} → statement M
 list-level-spec =

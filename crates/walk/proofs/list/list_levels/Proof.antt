@@ -5,7 +5,7 @@ use Prim.Native.Nat.{ℕ, _+_, _-_, _≤_}
 use lib.ListN.{length}
 use Rattle.lists.specs.Lists.{joined}
 use Rattle.trip.specs.declared.Trip.{Trip}
-use Rattle.plan.specs.Bounds.{inside}
+use Rattle.plan.specs.Sought.{isSought}
 use Rattle.plan.specs.Plan.{stretchesAt}
 use Rattle.walk.specs.Part.{Listed}
 use Rattle.walk.specs.Levels.{levelUp}
@@ -17,11 +17,11 @@ use Rattle.walk.proofs.list.list_levels.Statement.{statement}
 use Rattle.walk.proofs.list.list_levels.Tie as tie
 
 abbrev Inv-loop : tie.InvT-loop
-Inv-loop bounds plan directory originals replicas answers₀ m count₀ up₀ answers count up = (up ≤ m + 1) × (m ≡ plan .low .0)
-    × (length answers ≡ length answers₀) × Listed (joined (levelUp (inside bounds) directory originals replicas plan) up) answers₀ answers count
+Inv-loop sought plan directory originals replicas answers₀ m count₀ up₀ answers count up = (up ≤ m + 1) × (m ≡ plan .low .0)
+    × (length answers ≡ length answers₀) × Listed (joined (levelUp (isSought sought) directory originals replicas plan) up) answers₀ answers count
 
 abbrev μ-loop : tie.MeasureT-loop
-μ-loop bounds plan directory originals replicas answers₀ m count₀ up₀ answers count up = m + 1 - up
+μ-loop sought plan directory originals replicas answers₀ m count₀ up₀ answers count up = m + 1 - up
 
 -- the places that facts are taken from
 abbrev start-before-level : tie.After-level Inv-loop μ-loop → tie.Start Inv-loop μ-loop
@@ -32,7 +32,7 @@ start-before-stretches-at c = start-before-level (c .before .before .before)
 
 -- what the levels list, from the deepest up
 abbrev level-row : tie.Start Inv-loop μ-loop → ℕ → List Trip
-level-row s = levelUp (inside (s .args .bounds)) (s .args .directory .now) (s .args .originals .now) (s .args .replicas .now) (s .args .plan)
+level-row s = levelUp (isSought (s .args .sought)) (s .args .directory .now) (s .args .originals .now) (s .args .replicas .now) (s .args .plan)
 
 level-requires : tie.Need-level-requires Inv-loop μ-loop
 level-requires c κs = search needs

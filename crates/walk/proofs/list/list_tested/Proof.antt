@@ -1,30 +1,27 @@
 -- The ids of the matches among the entries passed stand in the list's first words.
-use mathlib.Core.Path.{_≡_, refl, ap}
-use mathlib.Core.Bool.{true, false}
-use mathlib.Core.Logic.{⊎-elim}
+use mathlib.Core.Path.{_≡_, refl, ap, _∙_}
+use mathlib.Core.Bool.{false}
 use Prim.Native.Nat.{_-_, _≤_}
-use lib.ListN.{length, length-set}
+use lib.ListN.{length}
 use Rattle.trip.specs.declared.Trip.{Trip}
-use Rattle.layout.specs.Words.{tripAt}
-use Rattle.plan.specs.Bounds.{inside}
+use Rattle.plan.specs.Sought.{isSought}
 use Rattle.walk.specs.Part.{Listed}
 use Rattle.walk.proofs.Written.{listed-none}
-use Rattle.walk.proofs.PartTurns.{found, found-none, found-all, hit-room, hit-listed, miss-listed}
-use lib.ListN.{length}
+use Rattle.walk.proofs.PartTurns.{found, found-none, found-all, turn-room, turn-listed, put-length}
 use native.Mathlib.Omega.{arith}
 use borrow.Author.Needs.{needs}
 use Rattle.walk.proofs.list.list_tested.Statement.{statement}
 use Rattle.walk.proofs.list.list_tested.Tie as tie
 
 abbrev Inv-loop : tie.InvT-loop
-Inv-loop bounds part out₀ n count₀ i₀ out count i = (i ≤ n) × (length out ≡ length out₀) × Listed (found (inside bounds) part i) out₀ out count
+Inv-loop sought part out₀ n count₀ i₀ out count i = (i ≤ n) × (length out ≡ length out₀) × Listed (found (isSought sought false) part i) out₀ out count
 
 abbrev μ-loop : tie.MeasureT-loop
-μ-loop bounds part out₀ n count₀ i₀ out count i = n - i
+μ-loop sought part out₀ n count₀ i₀ out count i = n - i
 
 -- the places that facts are taken from
-abbrev start-before-hold : tie.After-hold Inv-loop μ-loop → tie.Start Inv-loop μ-loop
-start-before-hold c = c .before .before .before .before .before .before
+abbrev start-before-trip-at : tie.After-trip-at Inv-loop μ-loop → tie.Start Inv-loop μ-loop
+start-before-trip-at c = c .before .before .before .before .before
 
 loop-holds : tie.Need-loop-holds Inv-loop μ-loop
 loop-holds c = (omega arith, refl, rw (found-none _ _) (listed-none _))
@@ -32,35 +29,15 @@ loop-holds c = (omega arith, refl, rw (found-none _ _) (listed-none _))
 trip-at-requires : tie.Need-trip-at-requires Inv-loop μ-loop
 trip-at-requires c κs = omega arith
 
-hold-requires : tie.Need-hold-requires Inv-loop μ-loop
-hold-requires c κs = search needs
+has-requires : tie.Need-has-requires Inv-loop μ-loop
+has-requires c κs = search needs
 
-mul-out : tie.Need-mul-out Inv-loop μ-loop
-mul-out c =
-    let g = start-before-hold (c .before) .args in
+put-if-requires : tie.Need-put-if-requires Inv-loop μ-loop
+put-if-requires c κs =
+    let g = start-before-trip-at (c .before .before) .args in
     let q = c .before .before .before .before .loop in
-    let test = inside (g .bounds) in
-    let l = g .part .now in
-    let e : test (tripAt l (q .i)) ≡ true = rw (← c .before .before .trip-at .ensures, ← c .before .hold .ensures) (c .if1 .taken) in
-    omega (arith, hit-room test l (q .inv .2) e (omega arith) (omega arith))
-
-slice-write-out : tie.Need-slice-write-out Inv-loop μ-loop
-slice-write-out c =
-    let g = start-before-hold (c .before) .args in
-    let q = c .before .before .before .before .loop in
-    let test = inside (g .bounds) in
-    let l = g .part .now in
-    let e : test (tripAt l (q .i)) ≡ true = rw (← c .before .before .trip-at .ensures, ← c .before .hold .ensures) (c .if1 .taken) in
-    hit-room test l (q .inv .2) e (omega arith) (omega arith)
-
-add-count : tie.Need-add-count Inv-loop μ-loop
-add-count c =
-    let g = start-before-hold (c .before) .args in
-    let q = c .before .before .before .before .loop in
-    let test = inside (g .bounds) in
-    let l = g .part .now in
-    let e : test (tripAt l (q .i)) ≡ true = rw (← c .before .before .trip-at .ensures, ← c .before .hold .ensures) (c .if1 .taken) in
-    omega (arith, hit-room test l (q .inv .2) e (omega arith) (omega arith))
+    turn-room (isSought (g .sought) false) (g .part .now) (q .inv .2) (omega arith) (omega arith)
+    (c .before .has .ensures ∙ ap (isSought (g .sought) false) (c .before .before .trip-at .ensures))
 
 add-i : tie.Need-add-i Inv-loop μ-loop
 add-i c = omega arith
@@ -70,30 +47,22 @@ loop-less c = omega arith
 
 loop-again : tie.Need-loop-again Inv-loop μ-loop
 loop-again c =
-    let g = start-before-hold (c .before) .args in
-    let q = c .before .before .before .before .loop in
-    let test = inside (g .bounds) in
-    let l = g .part .now in
-    let trip = c .before .before .trip-at .ensures in
-    ⊎-elim
-    (λ w.
-    let e : test (tripAt l (q .i)) ≡ true = rw (← c .before .before .trip-at .ensures, ← c .before .hold .ensures) (w .0 .taken) in
-    let f = hit-listed test l (q .inv .2) e (omega arith) (omega arith) {v = c .before .before .trip-at .result .id}
-    (ap (λ (t : Trip). t .id) trip) in
-    (omega arith, rw (w .1) (simp length-set (q .inv .1)), rw (w .1, w .2) f))
-    (λ w.
-    let e : test (tripAt l (q .i)) ≡ false = rw (← c .before .before .trip-at .ensures, ← c .before .hold .ensures) (w .0 .left) in
-    (omega arith, rw (w .1) (q .inv .1), rw (w .1, w .2) (miss-listed test l (q .i) (q .inv .2) e)))
-    (c .if1 .came)
+    let read = c .before .before .before .before .before in
+    let g = start-before-trip-at read .args in
+    let q = read .before .before .loop in
+    let put = c .before .before .put-if .ensures in
+    let next = turn-listed (isSought (g .sought) false) (g .part .now) (q .inv .2) (omega arith) (omega arith)
+    (c .before .before .before .before .has .ensures ∙ ap (isSought (g .sought) false) (read .trip-at .ensures)) (ap (λ (t : Trip). t .id) (read .trip-at .ensures)) in
+    (omega arith, ap length (put .1) ∙ put-length (c .before .before .before .before .has .result) (q .out) (q .count) (read .trip-at .result .id) ∙ q .inv .1, rw (put .0, put .1) next)
 
 same-length : tie.Need-same-length Inv-loop μ-loop
 same-length c = c .before .loop .inv .1
 
 returns : tie.Need-returns Inv-loop μ-loop
 returns c =
-    let a = c .before .before .before .before .args in
+    let g = c .before .before .before .before .args in
     let q = c .before .loop in
-    rw (← found-all (inside (a .bounds)) (a .part .now) (q .i) (omega arith)) (q .inv .2)
+    rw (← found-all (isSought (g .sought) false) (g .part .now) (q .i) (omega arith)) (q .inv .2)
 
 pub list-tested-spec : {M : Type 1} → statement M
 list-tested-spec =
@@ -103,10 +72,8 @@ list-tested-spec =
     μ-loop
     loop-holds
     trip-at-requires
-    hold-requires
-    mul-out
-    slice-write-out
-    add-count
+    has-requires
+    put-if-requires
     add-i
     loop-less
     loop-again
