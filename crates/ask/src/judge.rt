@@ -7,7 +7,7 @@ use layout::{Outcome, Refusal, window_outcome};
 use ruler::Ruler;
 use trip::{Asking, Named, Question, relationship_of};
 
-#[derive(Drop)]
+#[derive(Clone, Copy)]
 pub enum Judgement {
     Fit(Question),
     Unfit(Refusal),

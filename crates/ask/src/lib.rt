@@ -1,4 +1,6 @@
 // Questions on the words of an index: the ids of the trips to which a window stands in a named relationship.
+#![tactic(auto)]
+
 mod judge;
 
 ghost use Rattle.std.specs.Prelude.{◌≡◌, true, ◌≤◌, length};
@@ -23,7 +25,7 @@ use walk::count::count_levels;
 use walk::list::list_levels;
 
 // What a question answers: the outcome, and how many ids it listed.
-#[derive(Drop)]
+#[derive(Clone, Copy)]
 pub struct Answered {
     pub outcome: Outcome,
     pub count: u32,

@@ -10,7 +10,7 @@ use native.Mathlib.Numerals.{add-one}
 use native.Mathlib.Omega.{arith}
 use lib.Dec.{ltb, eqb}
 use lib.ListN.{length, get_or, drop, drop_of_length-le}
-use lib.Seq.{drop_cons}
+use lib.Seq.{drop-cons}
 use Rattle.lists.proofs.Tests.{to_T, of_not_T}
 use Rattle.lists.proofs.Members.{none, more}
 use Rattle.lists.proofs.Halving.{at_mem}
@@ -75,7 +75,7 @@ unfolding first_bad_row
 rows_turn s table i h =
     let t = trip_at table i in
     let split : drop i (rows table) ≡ t ∷ drop (suc i) (rows table) =
-    drop_cons (rows table) i no_trip (rw length-rows h) ∙ ap (λ (u : Trip). u ∷ drop (suc i) (rows table)) (get_d_rows table i no_trip h) in
+    drop-cons (rows table) i no_trip (rw length-rows h) ∙ ap (λ (u : Trip). u ∷ drop (suc i) (rows table)) (get_d_rows table i no_trip h) in
     rw (add-one i)
     (ap (λ (x : List Trip). first_bad_row s i (rows_back table i) x Accepted) split
     ∙ row_then s (rows_back table i) t i (first_bad_row s (suc i) (t ∷ rows_back table i) (drop (suc i) (rows table)) Accepted))
@@ -93,7 +93,7 @@ pub sum_turn : (f : Trip → ℕ) (table : List ℕ) (i sum : ℕ) → i < lengt
 unfolding sum_over
 sum_turn f table i sum h =
     let split : drop i (rows table) ≡ trip_at table i ∷ drop (i + 1) (rows table) =
-    rw (add-one i) (drop_cons (rows table) i no_trip (rw length-rows h)
+    rw (add-one i) (drop-cons (rows table) i no_trip (rw length-rows h)
     ∙ ap (λ (u : Trip). u ∷ drop (suc i) (rows table)) (get_d_rows table i no_trip h)) in
     rw split (omega arith)
 

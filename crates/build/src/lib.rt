@@ -1,4 +1,6 @@
 // The index of a table.
+#![tactic(auto)]
+
 mod halves;
 mod replicas;
 mod rows;

@@ -1,5 +1,7 @@
 // Cases that are run: the examples of document 01 that are not proved as theorems, the most trips, each kind of damage once, days, and the second ruler.
 // Each writes a line, `ok` or `WRONG` and its name. Drawn tables, questions, damage and days of edits are the model's, through `probe` (tests/agree).
+#![tactic(auto)]
+
 mod damage_cases;
 mod day_cases;
 mod example_cases;

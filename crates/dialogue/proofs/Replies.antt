@@ -5,7 +5,7 @@ use Prim.Native.Nat.{ℕ, suc, ◌+◌, ◌-◌, ◌*◌, ◌^◌, ◌≤◌, �
 use native.Mathlib.Numerals.{add-one}
 use native.Mathlib.Omega.{arith}
 use lib.ListN.{length, take, drop, get_or, set, length-append, length-set, length-take, length-drop, drop_of_length-le}
-use lib.Seq.{sets, sets-eq, length-sets, drop_cons, drop-length, drop-drop, take_all}
+use lib.Seq.{sets, sets-eq, length-sets, drop-cons, drop-length, drop-drop, take_all}
 use Rattle.lists.proofs.Stores.{sets_append}
 use Rattle.text.specs.Bytes.{space}
 use Rattle.text.specs.Decimal.{decimal, Written, written, written_of}
@@ -54,7 +54,7 @@ unfolding id_bytes
 putting_turn {reply₀} {reply} {reply'} {at} {to} {to'} {ids} {i} w h b e =
     let x = get_or ids i 0 in
     let rest = id_bytes (drop (i + 1) ids) in
-    let split : id_bytes (drop i ids) ≡ (space ∷ decimal x) ++ rest = rw add-one (ap id_bytes (drop_cons ids i 0 h)) in
+    let split : id_bytes (drop i ids) ≡ (space ∷ decimal x) ++ rest = rw add-one (ap id_bytes (drop-cons ids i 0 h)) in
     let count = ap length split ∙ length-append (space ∷ decimal x) rest in
     let few = ten_digits x b in
     let next : to + suc (length (decimal x)) ≡ to' = omega (arith, e.0) in

@@ -8,7 +8,7 @@ use native.Mathlib.Decide.{dec_lt}
 use native.Mathlib.Omega.{arith}
 use lib.Dec.{ltb, eqb}
 use lib.ListN.{length, get_or, take, drop, replicate}
-use lib.Seq.{take_at, drop_at, drop-length, drop_cons}
+use lib.Seq.{take_at, drop_at, drop-length, drop-cons}
 use borrow.Rule.Slice.PartMut.{put_mid}
 use borrow.Author.Tests.{eqb-true, lt-ltb, le-ltb}
 use Rattle.lists.specs.Lists.{padded}
@@ -71,7 +71,7 @@ pub search_hit : (i k : ℕ) (ts : List Trip) → k < length ts → place_of_id 
     → eqb (get_or ts k no_trip).id i ≡ true → k ≡ place_of_id i ts
 unfolding place_of_id
 search_hit i k ts h w e =
-    let z : place_of_id i (drop k ts) ≡ 0 = rw (drop_cons ts k no_trip h, e) in
+    let z : place_of_id i (drop k ts) ≡ 0 = rw (drop-cons ts k no_trip h, e) in
     omega (arith, w, z)
 
 pub search_miss : (i k : ℕ) (ts : List Trip) → k < length ts → place_of_id i ts ≡ k + place_of_id i (drop k ts) → eqb (get_or ts k no_trip).id i ≡ false
@@ -79,7 +79,7 @@ pub search_miss : (i k : ℕ) (ts : List Trip) → k < length ts → place_of_id
 unfolding place_of_id
 search_miss i k ts h w e =
     let n : suc k ≡ k + 1 = omega arith in
-    let z : place_of_id i (drop k ts) ≡ suc (place_of_id i (drop (suc k) ts)) = rw (drop_cons ts k no_trip h, e) in
+    let z : place_of_id i (drop k ts) ≡ suc (place_of_id i (drop (suc k) ts)) = rw (drop-cons ts k no_trip h, e) in
     omega (arith, w, z, ap (λ (j : ℕ). place_of_id i (drop j ts)) n)
 
 pub search_end : (i k : ℕ) (ts : List Trip) → k ≡ length ts → place_of_id i ts ≡ k + place_of_id i (drop k ts) → k ≡ place_of_id i ts

@@ -1,5 +1,7 @@
 // Edits of an index: one trip added, or the trip of an id removed. An edit moves entries where they stand and builds nothing anew; what it
 // can refuse is asked before a word is written.
+#![tactic(auto)]
+
 ghost use Rattle.std.specs.Prelude.{◌≡◌};
 ghost use mathlib.Core.List.{◌∷◌, Memᴰ};
 ghost use Rattle.ruler.specs.Ruler.{Made, scale_of, scale};

@@ -1,5 +1,7 @@
 // What other languages link: one C function for each public entry, over numbers and slices. Each takes the entry's outcome apart into the
 // numbers of document 01, and does nothing else. A ruler is one value for all of them; two functions make it.
+#![tactic(auto)]
+
 ghost use Rattle.std.specs.Prelude.{◌≡◌, length};
 ghost use Rattle.layout.specs.Calls.{index, if_accepted};
 ghost use Rattle.export.specs.Said.{bits_named, spread_named, numbers_named};
@@ -13,7 +15,7 @@ use view::{LEVELS, SUBDIVISIONS};
 // A ruler as C holds it: its kind, m, and the other numbers of that kind: w, or lo and hi. Four words, so that a call takes them in two
 // registers. C may write anything into them: what they name is judged by each call.
 #[repr(C)]
-#[derive(Drop)]
+#[derive(Clone, Copy)]
 pub struct NamedRuler {
     pub kind: u32,
     pub m: u32,
@@ -34,7 +36,7 @@ const NO_WIDTH: u32 = 0;
 
 // The number of refusal, or 0, and its detail.
 #[repr(C)]
-#[derive(Drop)]
+#[derive(Clone, Copy)]
 pub struct Said {
     pub number: u32,
     pub detail: u32,
@@ -42,7 +44,7 @@ pub struct Said {
 
 // The same, with the count of ids.
 #[repr(C)]
-#[derive(Drop)]
+#[derive(Clone, Copy)]
 pub struct Told {
     pub number: u32,
     pub detail: u32,
@@ -51,7 +53,7 @@ pub struct Told {
 
 // A part of one of the arenas: which arena, the word at which it begins, and its words.
 #[repr(C)]
-#[derive(Drop)]
+#[derive(Clone, Copy)]
 pub struct Shown {
     pub number: u32,
     pub arena: u32,

@@ -9,7 +9,7 @@ use native.Mathlib.Omega.{arith}
 use borrow.Author.Tests.{eq-eqb, ne_eqb}
 use lib.Dec.{ltb}
 use lib.ListN.{length, take, drop, get_or, set, replicate, length-append, length-take}
-use lib.Seq.{sets, length-sets, take_all, take_at, take-suc-set, length-take-le, drop_cons, drop-length}
+use lib.Seq.{sets, length-sets, take_all, take_at, take-suc-set, length-take-le, drop-cons, drop-length}
 use borrow.Rule.Slice.PartMut.{mid_of, put_mid}
 use Rattle.lists.specs.Lists.{padded}
 use Rattle.lists.proofs.Padded.{padded-length, padded-more}
@@ -164,7 +164,7 @@ feeding_turn {h₀} {chunk} {out₀} {s} {x} {answers} {out} {to} {i} e w h ends
     let f = byte_of y (get_or chunk i 0) in
     let later = drop (i + 1) chunk in
     let g = feed_of f.after later in
-    let step : feed_of y (drop i chunk) ≡ leaving g.after (f.writes ++ g.writes) = rw add-one (ap (feed_of y) (drop_cons chunk i 0 h)) in
+    let step : feed_of y (drop i chunk) ≡ leaving g.after (f.writes ++ g.writes) = rw add-one (ap (feed_of y) (drop-cons chunk i 0 h)) in
     let same : feed_of (held_by r.standing x' answers') later ≡ g = ap (λ (z : Held). feed_of z later) left.holds in
     let short = byte_short out to e ends left in
     let few : length f.writes ≤ e - to = omega (arith, left.count) in

@@ -1,4 +1,6 @@
 // The input as it comes, in chunks that end anywhere: what is held between two of them, and the turns of the lines that end in one.
+#![tactic(auto)]
+
 ghost use Rattle.std.specs.Prelude.{◌≡◌, true, List, [], ℕ, length};
 ghost use Rattle.layout.specs.Words.{Index};
 ghost use Rattle.layout.specs.Calls.{index};
@@ -20,7 +22,7 @@ const REPLY: usize = 2848;
 
 // Where the session stands between two bytes of the input: the desk, the bytes of a line that has not ended, and whether it goes on. Its
 // fields are private, so what is held cannot be lost between two chunks.
-#[derive(Drop)]
+#[derive(Clone, Copy)]
 pub struct Standing {
     desk: Desk,
     line: [u8; LINE],
@@ -29,7 +31,7 @@ pub struct Standing {
 }
 
 // What some of the input leaves: where the session stands after it, and how many bytes were written.
-#[derive(Drop)]
+#[derive(Clone, Copy)]
 pub struct Fed {
     pub standing: Standing,
     pub written: usize,

@@ -7,7 +7,7 @@ use native.Mathlib.Omega.{arith}
 use lib.ListN.{length}
 use Rattle.lists.specs.Lists.{one_more, count, sum_to, sum_over}
 use Rattle.lists.proofs.Members.{length-sort}
-use Rattle.lists.proofs.Sums.{length-joined, sum-over-add, exchange, one_more, pair_of, count_pairs}
+use Rattle.lists.proofs.Sums.{length-joined, sum-over-add, exchange, one_more_lem, pair_of, count_pairs}
 use Rattle.ruler.specs.Ruler.{Scale}
 use Rattle.trip.specs.declared.Trip.{Trip}
 use Rattle.layout.specs.declared.Half.{Half}
@@ -34,7 +34,7 @@ four_slots false o e = refl
 by_partition : (f g h : ℕ → Bool) → ((p : ℕ) → pair_of f p + pair_of g p ≡ one_more (h p) 0) → (n : ℕ) → count f (2 * n) + count g (2 * n) ≡ count h n
 unfolding count
 by_partition f g h e zero = refl
-by_partition f g h e (suc n) = omega (arith, e n, by_partition f g h e n, count_pairs f n, count_pairs g n, one_more (h n) (count h n))
+by_partition f g h e (suc n) = omega (arith, e n, by_partition f g h e n, count_pairs f n, count_pairs g n, one_more_lem (h n) (count h n))
 
 -- partition number p holds the trip
 abbrev held_by : Scale → Trip → (p : ℕ) → Bool

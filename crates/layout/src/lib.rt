@@ -1,4 +1,6 @@
 // What the index is: its halves and subdivisions, the words of an entry, and what a call may answer.
+#![tactic(auto)]
+
 pub mod directory;
 
 ghost use Rattle.std.specs.Prelude.{◌≡◌, true};
@@ -11,13 +13,13 @@ use ruler::{Ruler, Time};
 use trip::{LAST_DAY, Trip, Window};
 
 // A directory half with its arena.
-#[derive(Drop)]
+#[derive(Clone, Copy)]
 pub enum Half {
     Originals,
     Replicas,
 }
 
-#[derive(Drop)]
+#[derive(Clone, Copy)]
 pub enum Subdivision {
     OIn,
     OAft,
@@ -26,7 +28,7 @@ pub enum Subdivision {
 }
 
 // Why a call is refused, in the order of the paper's numbers: 1 to 10, 12, 16 and 17.
-#[derive(Drop)]
+#[derive(Clone, Copy)]
 pub enum Refusal {
     RulerOutOfBounds,
     TableSize,
@@ -44,7 +46,7 @@ pub enum Refusal {
 }
 
 // What a call answers.
-#[derive(Drop)]
+#[derive(Clone, Copy)]
 pub enum Outcome {
     Accepted,
     Refused { refusal: Refusal, detail: u32 },

@@ -5,11 +5,11 @@ use mathlib.Core.List.{List, [], ◌∷◌, ◌++◌, Memᴰ as Mem}
 use Prim.Native.Nat.{ℕ, zero, suc, ◌-◌, ◌≤◌, ◌<◌}
 use native.Mathlib.Omega.{arith}
 use lib.ListN.{length, get_or, take, drop}
-use lib.Seq.{drop_cons, take-suc}
+use lib.Seq.{drop-cons, take-suc}
 
 module _ {A : Type 0} (d : A) (l : List A) (j : ℕ) (h : 0 < j) (g : j ≤ length l) where
   pub drop_last : drop (j - 1) l ≡ get_or l (j - 1) d ∷ drop j l
-  drop_last = let e : suc (j - 1) ≡ j = omega arith in drop_cons l (j - 1) d (omega arith) ∙ ap (λ (k : ℕ). get_or l (j - 1) d ∷ drop k l) e
+  drop_last = let e : suc (j - 1) ≡ j = omega arith in drop-cons l (j - 1) d (omega arith) ∙ ap (λ (k : ℕ). get_or l (j - 1) d ∷ drop k l) e
 
   pub take_last : take j l ≡ take (j - 1) l ++ (get_or l (j - 1) d ∷ [])
   take_last = let e : j ≡ suc (j - 1) = omega arith in ap (λ (k : ℕ). take k l) e ∙ take-suc l (j - 1) d (omega arith)

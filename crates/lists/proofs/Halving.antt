@@ -33,9 +33,10 @@ module _ {A : Type 0} (d : A) where
   pairs_at (more {l = l} a s) zero (suc q) h g = a _ (at_mem l q (omega arith))
   pairs_at (more a s) (suc p) (suc q) h g = pairs_at s p q (omega arith) (omega arith)
 
-  pub mem_at : {l : List A} (t : A) → Mem t l → (j : ℕ) × (j < length l) × (get_or l j d ≡ t)
-  mem_at {l = x ∷ l} t (here e) = (0, omega arith, sym e)
-  mem_at {l = x ∷ l} t (there m) = let w = mem_at t m in (suc w.0, omega (arith, w.1), w.2)
+  pub mem_at : (t : A) {l : List A} → Mem t l → (j : ℕ) × (j < length l) × (get_or l j d ≡ t)
+  mem_at t {l = []} x'' = elim x'' [ ]
+  mem_at t {l = x ∷ l} (here e) = (0, omega arith, sym e)
+  mem_at t {l = x ∷ l} (there m) = let w = mem_at t m in (suc w.0, omega (arith, w.1), w.2)
 
   -- strict order, said of members and said of places
   pub in_order : (lt : A → A → Bool) {l : List A} → Sorted lt l → InOrder lt d l (length l)
@@ -237,7 +238,7 @@ module _ {A : Type 0} {lt : A → A → Bool} (o : StrictOrder lt) (t : A) where
   none_precede {y} {l = z ∷ l} h c =
       let later : T (lt t z) =
       elim c [ inl a ↦ o.trans t y z a (h z (here refl)) | inr e ↦ subst (λ (x : A). T (lt x z)) (sym e) (h z (here refl)) ] in
-      rw (of_no_T (lt z t) (λ a. o.asym z t a later)) (none_precede (λ u m. h u (there m)) c)
+      rw (of_no_T (lt z t) (λ a. o.asym z t a later)) (none_precede {l = l} (λ u m. h u (there m)) c)
 
   -- put in there, it is put in order
   pub insert_at : {l : List A} → Sorted lt l → ((y : A) → Mem y l → T (lt t y) ⊎ T (lt y t))

@@ -6,7 +6,7 @@ use native.Mathlib.Nat.{add-zero}
 use native.Mathlib.Numerals.{add-one}
 use native.Mathlib.Omega.{arith}
 use lib.ListN.{length, drop, get_or, set}
-use lib.Seq.{sets, drop_cons}
+use lib.Seq.{sets, drop-cons}
 
 module _ {A : Type 0} where
   pub sets_append : (l : List A) (i : ℕ) (v w : List A) → sets l i (v ++ w) ≡ sets (sets l i v) (i + length v) w
@@ -18,4 +18,4 @@ module _ {A : Type 0} where
       → sets (set l (at + i) (get_or v i d)) (at + (i + 1)) (drop (i + 1) v) ≡ sets l (at + i) (drop i v)
   sets_turn l v at i d h =
       let e : at + (i + 1) ≡ suc (at + i) = omega arith in
-      rw (e, add-one i) (sym (ap (sets l (at + i)) (drop_cons v i d h)))
+      rw (e, add-one i) (sym (ap (sets l (at + i)) (drop-cons v i d h)))

@@ -46,9 +46,9 @@ sum-over-add f g h e (x ∷ l) = omega (arith, e x, sum-over-add f g h e l)
 
 -- ---- two sums exchanged
 
-pub one_more : (b : Bool) (n : ℕ) → one_more b n ≡ one_more b 0 + n
-one_more true n = omega arith
-one_more false n = omega arith
+pub one_more_lem : (b : Bool) (n : ℕ) → one_more b n ≡ one_more b 0 + n
+one_more_lem true n = omega arith
+one_more_lem false n = omega arith
 
 length-cons_if : {A : Type 0} (b : Bool) (x : A) (l : List A) → length (cons_if b x l) ≡ one_more b 0 + length l
 length-cons_if true x l = omega arith
@@ -63,7 +63,7 @@ module _ {A : Type 0} (b : ℕ → A → Bool) where
   one_sum : (x : A) (l : List A) (n : ℕ) → sum_to (λ k. length (keep (b k) (x ∷ l))) n ≡ count (λ k. b k x) n + sum_to (λ k. length (keep (b k) l)) n
   unfolding sum_to keep count
   one_sum x l zero = refl
-  one_sum x l (suc n) = omega (arith, one_sum x l n, length-cons_if (b n x) x (keep (b n) l), one_more (b n x) (count (λ k. b k x) n))
+  one_sum x l (suc n) = omega (arith, one_sum x l n, length-cons_if (b n x) x (keep (b n) l), one_more_lem (b n x) (count (λ k. b k x) n))
 
   -- what is kept in each of n places, added up, is for each member the number of places that keep it, added up
   pub exchange : (l : List A) (n : ℕ) → sum_to (λ k. length (keep (b k) l)) n ≡ sum_over (λ x. count (λ k. b k x) n) l
@@ -91,4 +91,4 @@ count_pairs f n =
     let d : 2 * suc n ≡ suc (suc (2 * n)) = omega arith in
     let odd = f (suc (2 * n)) in
     let even = f (2 * n) in
-    rw d (omega (arith, one_more odd (one_more even (count f (2 * n))), one_more even (count f (2 * n)), one_more odd (one_more even 0)))
+    rw d (omega (arith, one_more_lem odd (one_more even (count f (2 * n))), one_more_lem even (count f (2 * n)), one_more_lem odd (one_more even 0)))

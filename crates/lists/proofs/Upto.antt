@@ -7,7 +7,7 @@ use native.Mathlib.Numerals.{add-one}
 use native.Mathlib.Decide.{dec_lt}
 use native.Mathlib.Omega.{arith}
 use lib.ListN.{length, drop, get_or, set, length-append, get_or-append}
-use lib.Seq.{drop_cons, set_at, get_or_at}
+use lib.Seq.{drop-cons, set_at, get_or_at}
 use lib.Dec.{T}
 use Rattle.lists.specs.Lists.{every, up_to}
 use Rattle.lists.proofs.Tests.{of_and}
@@ -46,7 +46,7 @@ module _ {A : Type 0} where
       → set ys i v ≡ up_to f (i + 1) ++ drop (i + 1) xs
   unfolding up_to
   up_to-more f i xs ys v d h e y =
-      rw (y, e, add-one, drop_cons xs i d, set_at (up_to f i) (get_or xs i d) (drop (suc i) xs) (f i) i (length-up_to f i), append_assoc)
+      rw (y, e, add-one, drop-cons xs i d, set_at (up_to f i) (get_or xs i d) (drop (suc i) xs) (f i) i (length-up_to f i), append_assoc)
 
 pub map-up_to : {A B : Type 0} (g : A → B) (f : ℕ → A) (n : ℕ) → map g (up_to f n) ≡ up_to (λ k. g (f k)) n
 unfolding up_to

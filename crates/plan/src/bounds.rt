@@ -6,7 +6,7 @@ use ruler::Time;
 use trip::{Relationship, Trip, Window};
 
 // The times from one on, up to another that is not of them.
-#[derive(Drop)]
+#[derive(Clone, Copy)]
 pub struct Span {
     pub from: Time,
     pub until: Time,
@@ -100,7 +100,7 @@ impl Span {
 }
 
 // Where a trip's start and its end have to lie.
-#[derive(Drop)]
+#[derive(Clone, Copy)]
 pub struct Bounds {
     pub start: Span,
     pub end: Span,

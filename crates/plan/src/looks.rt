@@ -7,7 +7,7 @@ use crate::stretches::{Stretch, Stretches};
 use layout::Half;
 
 // In what order the entries of a look stand, where they are tested.
-#[derive(Drop)]
+#[derive(Clone, Copy)]
 pub enum Order {
     ByStart,
     ByEnd,
@@ -16,7 +16,7 @@ pub enum Order {
 }
 
 // The entries of a stretch of one half.
-#[derive(Drop)]
+#[derive(Clone, Copy)]
 pub struct Look {
     pub half: Half,
     pub order: Order,

@@ -7,7 +7,7 @@ ghost use Rattle.plan.specs.Plan.{plan, plan_of, plan_for};
 use ruler::{Cell, Ruler, power};
 use trip::{Relationship, Window};
 
-#[derive(Drop)]
+#[derive(Clone, Copy)]
 pub enum Kind {
     // The originals of the range's partitions.
     Starting,
@@ -18,7 +18,7 @@ pub enum Kind {
 }
 
 // Where the plan is quick, a trip that ends after the first cell and starts before the last one matches, untested.
-#[derive(Drop)]
+#[derive(Clone, Copy)]
 pub struct Plan {
     pub kind: Kind,
     pub low: Cell,

@@ -9,7 +9,7 @@ use ruler::power;
 use trip::{Question, Trip};
 
 // The days are bits: that of the one day asked for.
-#[derive(Drop)]
+#[derive(Clone, Copy)]
 pub struct Sought {
     pub bounds: Bounds,
     pub days: u32,

@@ -60,7 +60,7 @@ fn sure_last(plan: Plan, level: u32) -> bool
 }
 
 // The entries from one word of a directory up to another, and whether they are known to match.
-#[derive(Drop)]
+#[derive(Clone, Copy)]
 pub struct Stretch {
     pub from: usize,
     pub to: usize,
@@ -76,7 +76,7 @@ impl Stretch {
 }
 
 // What is gone through at a level: the originals of the first partition, of those between and of the last, and the replicas.
-#[derive(Drop)]
+#[derive(Clone, Copy)]
 pub struct Stretches {
     pub first: Stretch,
     pub between: Stretch,

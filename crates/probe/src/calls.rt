@@ -11,7 +11,7 @@ use trip::{Asking, Trip};
 use view::{LEVELS, SUBDIVISIONS};
 
 // What a call says: its number, its detail, and a count, which is written where the row gives one.
-#[derive(Drop)]
+#[derive(Clone, Copy)]
 struct Said {
     number: u32,
     detail: u32,

@@ -11,7 +11,7 @@ pub const LINE: usize = 1200000;
 pub const CHUNK: usize = 65536;
 
 // What is held of a line, and whether it is whole; the part of the chunk that is left, from `at` to `got`; and whether more is read.
-#[derive(Drop)]
+#[derive(Clone, Copy)]
 pub struct Standing {
     pub held: usize,
     pub whole: bool,

@@ -1,5 +1,7 @@
 // A test port for harnesses in other languages: one call a line on standard input, its answer one line on standard output. A line of
 // another form is answered `bad line`, and the next line is read. A call is a row of the table in `rows`.
+#![tactic(auto)]
+
 mod calls;
 mod input;
 mod print;

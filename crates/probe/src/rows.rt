@@ -25,7 +25,7 @@ pub const SECOND: usize = ORIGINALS;
 pub const THIRD: usize = REPLICAS;
 
 // What is called.
-#[derive(Drop)]
+#[derive(Clone, Copy)]
 pub enum Call {
     Build,
     Check,
@@ -38,7 +38,7 @@ pub enum Call {
 }
 
 // What a call gives after its number and detail.
-#[derive(Drop)]
+#[derive(Clone, Copy)]
 pub enum Gives {
     Nothing,
     Count,
@@ -47,7 +47,7 @@ pub enum Gives {
 }
 
 // The room of each buffer, in the order of the line. Where there is no room there is no buffer.
-#[derive(Drop)]
+#[derive(Clone, Copy)]
 pub struct Rooms {
     pub first: usize,
     pub second: usize,
@@ -56,7 +56,7 @@ pub struct Rooms {
 
 // What is called, where its ruler begins in the line, how many numbers come after the ruler, which buffers it only reads, which it may write,
 // and what it gives.
-#[derive(Drop)]
+#[derive(Clone, Copy)]
 pub struct Row {
     pub call: Call,
     pub at: usize,

@@ -7,28 +7,28 @@ use ruler::Numbers;
 use text::Number;
 
 // A number read, and where the next field begins.
-#[derive(Drop)]
+#[derive(Clone, Copy)]
 pub struct Field {
     pub value: u32,
     pub next: usize,
 }
 
 // A ruler read, and where the next field begins.
-#[derive(Drop)]
+#[derive(Clone, Copy)]
 struct RulerField {
     ruler: Numbers,
     next: usize,
 }
 
 // Where the words of a buffer end, and where the next field begins.
-#[derive(Drop)]
+#[derive(Clone, Copy)]
 pub struct Words {
     pub end: usize,
     pub next: usize,
 }
 
 // The ruler of a call, and up to four numbers after it. Those that it has not are 0.
-#[derive(Drop)]
+#[derive(Clone, Copy)]
 pub struct Fields {
     pub ruler: Numbers,
     pub first: u32,
@@ -39,7 +39,7 @@ pub struct Fields {
 }
 
 // How many words each buffer has, or, of buffers that stand one after another, where it ends.
-#[derive(Drop)]
+#[derive(Clone, Copy)]
 pub struct Ends {
     pub first: usize,
     pub second: usize,

@@ -1,4 +1,6 @@
 // The ruler: raw times, cells at a level, and the numbers that a caller names a ruler by.
+#![tactic(auto)]
+
 ghost use Rattle.std.specs.Prelude.{◌≡◌, ◌+◌, ◌-◌, ◌^◌, ◌<◌, ◌≤◌, T};
 ghost use Rattle.ruler.specs.Ruler.{time_at, before, same_time, no_later, next_time, widest, deepest, most_trips, judge, scale, spans, bottom_of, Made};
 ghost use Rattle.ruler.specs.Ruler.{cell_of, bottom_cell, same_cell, no_later_cell, next_cell, cell_above, cell_in, parity, first_of_two};
@@ -9,7 +11,7 @@ mod kinds;
 // A raw time: whole seconds on the service day, which may pass 24:00:00. Its field is private: outside this crate a time can only be given
 // to the functions below, of which none but `Ruler::bottom_cell` has to do with cells. Its number leaves it by `seconds`,
 // which is called only where an entry's words are written (store/src/entry.rt).
-#[derive(Drop)]
+#[derive(Clone, Copy)]
 pub struct Time(u32);
 
 impl Time {
@@ -65,7 +67,7 @@ const SHARE_BITS: u32 = 48;
 // to a level's last ends at the cell one past it. The fields are private, and cells are compared at one level only. A cell's number leaves it
 // by `rank` and `rank_at`, which are called only where a slot's number is made (store/src/places.rt, plan/src/stretches.rt); `parity` gives its last
 // bit. What is counted of its digits is a number of levels or of cells.
-#[derive(Drop)]
+#[derive(Clone, Copy)]
 pub struct Cell(u32, u32);
 
 impl Cell {
@@ -206,7 +208,7 @@ impl Cell {
 }
 
 // What a caller names a ruler by: its numbers, not yet judged. The first kind has w and m; the second is spread over the times lo to hi.
-#[derive(Drop)]
+#[derive(Clone, Copy)]
 pub enum Numbers {
     Bits { w: u32, m: u32 },
     Spread { m: u32, lo: u32, hi: u32 },
@@ -226,7 +228,7 @@ impl Numbers {
 
 // A ruler whose numbers were in bounds when it was made. It keeps its first and last time, and what a second counts for: so no time and no cell asks
 // which kind it is, and a cell takes one product and no division.
-#[derive(Drop)]
+#[derive(Clone, Copy)]
 pub struct Ruler {
     numbers: Numbers,
     first: u32,
@@ -234,7 +236,7 @@ pub struct Ruler {
     share: u64,
 }
 
-#[derive(Drop)]
+#[derive(Clone, Copy)]
 pub enum Judged {
     Good(Ruler),
     OutOfBounds,

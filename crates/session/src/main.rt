@@ -1,5 +1,7 @@
 // The session program: it reads standard input in chunks and writes what each is answered. What is held between two chunks, and what a chunk
 // does and is answered, are the proved functions of `feeding`; this program reads, feeds and writes.
+#![tactic(auto)]
+
 ghost use Rattle.std.specs.Prelude.{◌≡◌, ◌≤◌, length};
 ghost use Rattle.layout.specs.Calls.{index};
 ghost use Rattle.dialogue.specs.Session.{state, start};

@@ -9,7 +9,7 @@ use native.Mathlib.Decide.{dec_lt}
 use lib.Dec.{T}
 use borrow.Author.Tests.{le-leb, lt-leb}
 use Rattle.lists.specs.Lists.{one_more, count}
-use Rattle.lists.proofs.Sums.{pair_of, count_pairs, one_more}
+use Rattle.lists.proofs.Sums.{pair_of, count_pairs, one_more_lem}
 use Rattle.lists.proofs.Tests.{of_T}
 use Rattle.ruler.specs.Ruler.{Scale, pieces}
 use Rattle.trip.specs.declared.Trip.{Trip}
@@ -91,8 +91,8 @@ module _ (m a b : ℕ) where
       let f : ℕ → Bool = λ i. holds m (suc L) i a b in
       let g : ℕ → Bool = λ i. within m L i a b in
       let k : ℕ → Bool = λ i. within m (suc L) i a b in
-      let twice = one_more (g n) (one_more (g n) 0) in
-      omega (arith, held-count L h n, two_children L n h, count_pairs f n, count_pairs k n, one_more (g n) (count g n), twice)
+      let twice = one_more_lem (g n) (one_more (g n) 0) in
+      omega (arith, held-count L h n, two_children L n h, count_pairs f n, count_pairs k n, one_more_lem (g n) (count g n), twice)
 
   -- at level L: from .. to - 1 lie in a..b, and `held` counts the partitions of the levels below L that hold the trip
   pub record Walk (L from to held all : ℕ) : Type 0 where

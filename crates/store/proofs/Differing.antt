@@ -11,7 +11,7 @@ use native.Mathlib.Numerals.{add-one}
 use native.Mathlib.Omega.{arith}
 use lib.Dec.{T, leb, ltb, ltb→lt}
 use lib.ListN.{length, get_or, drop, drop_of_length-le}
-use lib.Seq.{drop_cons, ext_get_or}
+use lib.Seq.{drop-cons, ext_get_or}
 use borrow.Author.Tests.{lt-ltb, le-ltb}
 use Rattle.lists.specs.Lists.{insert, sort, ascending, up_to}
 use Rattle.lists.proofs.Tests.{of_and, to_and, to_T, of_T}
@@ -110,7 +110,7 @@ module _ (step : ℕ) (l : List ℕ) where
 
   module _ (i : ℕ) where
     pub steps_left : i < length l / step → drop i (every_step step l) ≡ get_or l (step * i) 0 ∷ drop (i + 1) (every_step step l)
-    steps_left h = drop_cons (every_step step l) i 0 (rw long h) ∙ rw (add-one, at i h)
+    steps_left h = drop-cons (every_step step l) i 0 (rw long h) ∙ rw (add-one, at i h)
 
     pub steps_over : length l / step ≤ i → drop i (every_step step l) ≡ []
     steps_over h = let g : length (every_step step l) ≤ i = rw long h in drop_of_length-le (every_step step l) g

@@ -11,7 +11,7 @@ use lib.Dec.{leb, eqb, eqb→eq}
 use lib.Bits.{bit_or, or_shr, or_step, or_comm}
 use lib.Pow.{pow_pos}
 use lib.ListN.{length, get_or, take, drop, take-append-drop, length-set, drop_of_length-le}
-use lib.Seq.{take-suc, take_all, drop_cons, get_or-take, get_or-set_same, get_or-set_other, length-take-le}
+use lib.Seq.{take-suc, take_all, drop-cons, get_or-take, get_or-set_same, get_or-set_other, length-take-le}
 use borrow.Author.Tests.{eq-eqb}
 use Rattle.lists.specs.Lists.{insert, sort, ascending}
 use Rattle.lists.proofs.Tests.{agree, to_T, of_no_T}
@@ -63,7 +63,7 @@ pub among_next : (found : Bool) (x : ℕ) (l : List ℕ) (i : ℕ) → i < lengt
     → ((found || eqb (get_or l i 0) x) || among x (drop (i + 1) l)) ≡ (found || among x (drop i l))
 unfolding among
 among_next true x l i h = refl
-among_next false x l i h = rw (drop_cons l i 0 h, add-one i)
+among_next false x l i h = rw (drop-cons l i 0 h, add-one i)
 
 pub among_end : (found : Bool) (x : ℕ) (l : List ℕ) (i : ℕ) → length l ≤ i → (found || among x (drop i l)) ≡ found
 unfolding among
@@ -100,7 +100,7 @@ module _ (words : List ℕ) (i : ℕ) (h : i < length words) where
   pub told_stop : among id (take i words) ≡ true → differ words ≡ false
   told_stop e =
       let a = ascending (take i words) in
-      let again = apart_stop a (drop i words) _ id (drop_cons words i 0 h) (among-sort id (take i words) ∙ e) in
+      let again = apart_stop a (drop i words) _ id (drop-cons words i 0 h) (among-sort id (take i words) ∙ e) in
       front_again words (take i words) (drop i words) (sym (take-append-drop i words)) a refl again
 
   more-differ : differ (take i words) ≡ true → among id (take i words) ≡ false → differ (take (i + 1) words) ≡ true

@@ -7,7 +7,7 @@ use Prim.Native.Nat.{ℕ, zero, suc, ◌+◌, ◌-◌, ◌*◌, ◌/◌, ◌≤�
 use native.Mathlib.Omega.{arith}
 use lib.Dec.{leb, leb→le, le→leb}
 use lib.ListN.{length, get_or, set, take, drop, replicate, length-append, length-drop, take-append-drop}
-use lib.Seq.{length-take-le, take_at, drop_at, take-add, drop-drop, drop_cons, set_split}
+use lib.Seq.{length-take-le, take_at, drop_at, take-add, drop-drop, drop-cons, set_split}
 use borrow.Rule.Slice.PartMut.{put_mid}
 use Rattle.lists.proofs.Tests.{of_and, to_and, to_T, of_T}
 use Rattle.lists.specs.Lists.{joined}
@@ -153,7 +153,7 @@ module _ (dir arena : List ℕ) (ls : List (List Trip)) (j k : ℕ) (h : Holds d
 one_slot : (k : ℕ) (ls : List (List Trip)) → k < length ls → flat (between k (k + 1) ls) ≡ get_or ls k []
 one_slot k ls h =
     let e : k + 1 - k ≡ 1 = omega arith in
-    ap (λ (n : ℕ). flat (take n (drop k ls))) e ∙ ap (λ (x : List (List Trip)). flat (take 1 x)) (drop_cons ls k [] h) ∙ append-nil (get_or ls k [])
+    ap (λ (n : ℕ). flat (take n (drop k ls))) e ∙ ap (λ (x : List (List Trip)). flat (take 1 x)) (drop-cons ls k [] h) ∙ append-nil (get_or ls k [])
 
 starts-same : (n k : ℕ) (ls : List (List Trip)) (x : List Trip) → length x ≡ length (get_or ls k []) → starts_from n (set ls k x) ≡ starts_from n ls
 starts-same n k [] x e = refl

@@ -7,7 +7,7 @@ use layout::Refusal;
 use ruler::{Judged, Numbers, Ruler};
 
 // The ruler that the numbers make, for a directory as long as it asks; or why there is none.
-#[derive(Drop)]
+#[derive(Clone, Copy)]
 pub enum Framed {
     For(Ruler),
     Refused(Refusal),

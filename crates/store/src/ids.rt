@@ -107,7 +107,7 @@ fn stretch_end(from: usize, rows: usize, most: usize) -> usize
 }
 
 // How many ids of a class were gathered, and the row after the last that was looked at.
-#[derive(Drop)]
+#[derive(Clone, Copy)]
 struct Gathered {
     found: usize,
     next: usize,

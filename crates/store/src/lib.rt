@@ -1,4 +1,6 @@
 // The layer between words and trips: a directory half and its arena as a list of slots, each a list of trips.
+#![tactic(auto)]
+
 pub mod counting;
 pub mod directory;
 pub mod entry;

@@ -11,7 +11,7 @@ use borrow.Author.Tests.{le-leb, lt-leb, lt-ltb, le-ltb}
 use lib.Arith.{digits_lt}
 use lib.Dec.{lit<}
 use lib.ListN.{length, drop, get_or, drop_of_length-le}
-use lib.Seq.{drop_cons}
+use lib.Seq.{drop-cons}
 use Rattle.text.specs.declared.Number.TheVariants.{Value, Malformed}
 use Rattle.text.specs.Number.{
   base,
@@ -79,7 +79,7 @@ module _ (l : List ℕ) (i v : ℕ) (r : ReadTo l i v) where
       → ReadTo l (i + 1) (v * base + (get_or l i 0 - digit_zero))
   unfolding all_digits value_after
   read_more h low high =
-      let next = drop_cons l i 0 h in
+      let next = drop-cons l i 0 h in
       record {
         within = omega arith;
         small = rw (add-one, pow-suc) (digits_lt r.small (omega arith));
@@ -98,7 +98,7 @@ module _ (l : List ℕ) (i v : ℕ) (r : ReadTo l i v) where
   module _ (some : 1 ≤ length l) (few : length l ≤ most_digits) where
     pub read_other : i < length l → is_digit (get_or l i 0) ≡ false → number_of l ≡ Malformed
     unfolding all_digits
-    read_other h e = not_digits l some few (rw (← r.digits_left, drop_cons l i 0 h, e))
+    read_other h e = not_digits l some few (rw (← r.digits_left, drop-cons l i 0 h, e))
 
     pub read_large : length l ≤ i → 2 ^ 32 ≤ v → number_of l ≡ Malformed
     read_large h k = let e = read_all h in too_large l some few e.0 (rw e.1 k)

@@ -10,7 +10,7 @@ use native.Mathlib.Omega.{arith}
 use borrow.Author.Tests.{eq-eqb, ne_eqb}
 use lib.Dec.{eqb}
 use lib.ListN.{length, take, drop, get_or, drop_of_length-le, length-drop}
-use lib.Seq.{drop_cons}
+use lib.Seq.{drop-cons}
 use Rattle.text.specs.Bytes.{until, place_of, on_first, parted}
 
 -- ---- The first place of a byte
@@ -28,7 +28,7 @@ module _ (s : ℕ) (l : List ℕ) (i : ℕ) where
   -- a search ends where the byte stands and where the list ends, and goes on from any other byte
   pub place_here : i < length l → get_or l i 0 ≡ s → i ≡ place_of s l i
   unfolding place_of until
-  place_here h e = rw (drop_cons l i 0, eq-eqb (get_or l i 0) s) (omega arith)
+  place_here h e = rw (drop-cons l i 0, eq-eqb (get_or l i 0) s) (omega arith)
 
   pub place_end : length l ≤ i → i ≡ place_of s l i
   unfolding place_of until
@@ -36,7 +36,7 @@ module _ (s : ℕ) (l : List ℕ) (i : ℕ) where
 
   pub place_next : i < length l → (get_or l i 0 ≡ s → ⊥) → place_of s l (i + 1) ≡ place_of s l i
   unfolding place_of until
-  place_next h n = rw (drop_cons l i 0, ne_eqb (get_or l i 0) s, add-one) (omega arith)
+  place_next h n = rw (drop-cons l i 0, ne_eqb (get_or l i 0) s, add-one) (omega arith)
 
   pub place_from : i ≤ place_of s l i
   unfolding place_of

@@ -1,5 +1,7 @@
 // The bytes of the session program: what a line means, and how a number is read and written.
 // The public functions take any bytes at all, and their contracts settle every answer.
+#![tactic(auto)]
+
 ghost use Rattle.std.specs.Prelude.{◌≡◌, ◌≤◌, length, drop};
 ghost use Rattle.text.specs.Bytes.{space, parted, place_of};
 ghost use Rattle.text.specs.Number.{number_of};
@@ -43,7 +45,7 @@ const MOST_NUMBERS: usize = 4;
 pub const LONGEST_LINE: usize = LETTER_END + MOST_NUMBERS * (1 + MOST_DIGITS);
 
 // What a line means. Bad is a malformed line.
-#[derive(Drop)]
+#[derive(Clone, Copy)]
 pub enum Command {
     Ruler {
         w: u32,
@@ -68,14 +70,14 @@ pub enum Command {
 }
 
 // What a field is as a number.
-#[derive(Drop)]
+#[derive(Clone, Copy)]
 pub enum Number {
     Value(u32),
     Malformed,
 }
 
 // The numbers of a line. No line has more than four, so more are Wrong, and so are any with a malformed one among them.
-#[derive(Drop)]
+#[derive(Clone, Copy)]
 pub enum LineNumbers {
     None,
     One(u32),

@@ -1,4 +1,6 @@
 // Trips, windows, the fourteen relationships and the question. Here alone is known of which words each of them is made.
+#![tactic(auto)]
+
 ghost use Rattle.std.specs.Prelude.{◌≡◌};
 ghost use Rattle.trip.specs.Relationships.{named, related};
 ghost use Rattle.trip.specs.Trips.{trip_of, same_trip, runs_on_any, never_runs, window_of, asking_of};
@@ -6,7 +8,7 @@ ghost use Rattle.trip.specs.Trips.{trip_of, same_trip, runs_on_any, never_runs, 
 use ruler::Time;
 
 // A trip's running time, closed at both ends, and a bit for each day on which it runs.
-#[derive(Drop)]
+#[derive(Clone, Copy)]
 pub struct Trip {
     pub id: u32,
     pub start: Time,
@@ -55,7 +57,7 @@ impl Trip {
 // The last day on which a trip can run.
 pub const LAST_DAY: u32 = 31;
 
-#[derive(Drop)]
+#[derive(Clone, Copy)]
 pub struct Window {
     pub start: Time,
     pub end: Time,
@@ -73,7 +75,7 @@ impl Window {
 }
 
 // A question as it is put, not yet judged: its code may name nothing, its window may be off the ruler, and its day may be none.
-#[derive(Drop)]
+#[derive(Clone, Copy)]
 pub struct Asking {
     pub code: u32,
     pub window: Window,
@@ -93,7 +95,7 @@ impl Asking {
     }
 }
 
-#[derive(Drop)]
+#[derive(Clone, Copy)]
 pub enum Relationship {
     Equals,
     Starts,
@@ -112,7 +114,7 @@ pub enum Relationship {
 }
 
 // A question that was judged: its code names a relationship.
-#[derive(Drop)]
+#[derive(Clone, Copy)]
 pub struct Question {
     pub window: Window,
     pub relationship: Relationship,
@@ -120,7 +122,7 @@ pub struct Question {
 }
 
 // What a code names.
-#[derive(Drop)]
+#[derive(Clone, Copy)]
 pub enum Named {
     As(Relationship),
     Nothing,

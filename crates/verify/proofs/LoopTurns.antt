@@ -9,7 +9,7 @@ use native.Mathlib.Omega.{arith}
 use lib.Bits.{bit_or, or_add_and, and_le_r}
 use lib.Dec.{eqb}
 use lib.ListN.{length, get_or, drop, drop_of_length-le}
-use lib.Seq.{drop_cons}
+use lib.Seq.{drop-cons}
 use borrow.Author.Tests.{le-leb, lt-leb, lt-ltb, le-ltb, ne_eqb}
 use Rattle.lists.specs.Lists.{sum_over}
 use Rattle.lists.proofs.Tests.{of_T, to_T}
@@ -34,7 +34,7 @@ or_zero (suc a) b =
 
 module _ (xs : List ℕ) (i : ℕ) where
   left : i < length xs → drop i xs ≡ get_or xs i 0 ∷ drop (i + 1) xs
-  left h = rw (add-one, drop_cons xs i 0)
+  left h = rw (add-one, drop-cons xs i 0)
 
   -- a word is added to those met: no digit of either is set exactly if both are zero
   pub blank-more : (any : ℕ) → i < length xs → eqb (bit_or any (get_or xs i 0)) 0 && blank (drop (i + 1) xs) ≡ eqb any 0 && blank (drop i xs)
@@ -63,7 +63,7 @@ module _ (part : List ℕ) where
   row_left : (k : ℕ) → k < length part / entry_words → drop k (rows part) ≡ trip_at part k ∷ drop (k + 1) (rows part)
   row_left k h =
       let here : get_or (rows part) k (trip_at part k) ≡ trip_at part k = get_d_rows part k (trip_at part k) h in
-      drop_cons (rows part) k (trip_at part k) (rw length-rows h) ∙ rw (here, add-one)
+      drop-cons (rows part) k (trip_at part k) (rw length-rows h) ∙ rw (here, add-one)
 
   pub row_none : (k : ℕ) → length part / entry_words ≤ k → drop k (rows part) ≡ []
   row_none k h = drop_of_length-le (rows part) {i = k} (rw length-rows h)

@@ -1,4 +1,6 @@
 // Whether words are the index of a table, by conditions on the words themselves: nothing is laid out anew.
+#![tactic(auto)]
+
 ghost use Rattle.std.specs.Prelude.{◌≡◌, true, ◌<◌, length};
 ghost use Rattle.ruler.specs.Ruler.{Made, scale_of, scale};
 ghost use Rattle.layout.specs.Words.{half_length, directory_length};
@@ -93,7 +95,7 @@ pub fn is_index(ruler: Ruler, directory: &[u32], originals: &[u32], replicas: &[
 }
 
 // What a call on an index finds first: an index, with the ruler made for it, or why there is none.
-#[derive(Drop)]
+#[derive(Clone, Copy)]
 pub enum Opened {
     Index(Ruler),
     Refused(Refusal),

@@ -9,7 +9,7 @@ use ruler::{Cell, Ruler, power};
 use trip::Trip;
 
 // Some cells of one level: from one on, up to another that is not of them.
-#[derive(Drop)]
+#[derive(Clone, Copy)]
 pub struct Cells {
     from: Cell,
     until: Cell,
@@ -83,7 +83,7 @@ fn ends_of(m: u32, aft: bool, partition: Cell) -> Cells
 }
 
 // The level-m cells in which the trips of a slot start and end. It is found once for a slot; a trip is then tested by its own two cells.
-#[derive(Drop)]
+#[derive(Clone, Copy)]
 pub struct Frame {
     starts: Cells,
     ends: Cells,

@@ -1,5 +1,7 @@
 // Readings of an index: the census of its levels, and the run of one subdivision. Each opens the index once; then the directory alone says
 // the rest. The number of a call and what it shows come from two entries on the same inputs, or from `run_place` and `rows_opened` together.
+#![tactic(auto)]
+
 mod counts;
 mod slots;
 
@@ -60,7 +62,7 @@ pub fn census(
 }
 
 // Where a run stands: its outcome, the word of its arena at which it begins, and its words.
-#[derive(Drop)]
+#[derive(Clone, Copy)]
 pub struct Place {
     pub outcome: Outcome,
     pub from: usize,

@@ -4,7 +4,7 @@ use mathlib.Core.List.{List, [], ◌∷◌, ◌++◌, map-append, append-nil, ap
 use Prim.Native.Nat.{ℕ, suc, ◌+◌, ◌-◌, ◌≤◌, ◌<◌}
 use native.Mathlib.Omega.{arith}
 use lib.ListN.{length, take, drop, get_or, set, length-append, length-drop, length-map, drop_of_length-le}
-use lib.Seq.{take_all, drop_cons, drop-drop, take_at, drop_at, set_at}
+use lib.Seq.{take_all, drop-cons, drop-drop, take_at, drop_at, set_at}
 use Rattle.trip.specs.declared.Trip.{Trip}
 use Rattle.lists.specs.Lists.{over}
 use Rattle.layout.proofs.SortedLists.{id_of}
@@ -33,7 +33,7 @@ unfolding over
 over-put new old v h =
     let n = length new in
     let one : length (new ++ (v ∷ [])) ≡ suc n = rw length-append (omega arith) in
-    rw (drop_cons old n 0 h, set_at new (get_or old n 0) (drop (suc n) old) v n refl, one, append_assoc)
+    rw (drop-cons old n 0 h, set_at new (get_or old n 0) (drop (suc n) old) v n refl, one, append_assoc)
 
 -- more words into the rest: as the code lends it, and as it comes back
 module _ (new old : List ℕ) (n : ℕ) (e : n ≡ length new) where
