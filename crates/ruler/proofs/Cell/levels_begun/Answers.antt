@@ -1,0 +1,12 @@
+-- The bit above ends the count of the number's own zeros.
+use lib.Pow.{pow_mono}
+use Rattle.ruler.proofs.Zeros.{zeros_ended}
+use native.Mathlib.Omega.{arith}
+use borrow.Author.Rules.{rules}
+use Rattle.ruler.proofs.Cell.levels_begun.Goals as goal
+
+pub overflow_add-result : goal.overflow_add-result
+overflow_add-result c = let g = c in omega (arith, c.power.ensures, pow_mono g.requires.0)
+
+pub returns : goal.returns
+returns c = let g = c in rw c.power.ensures (zeros_ended g.args.self.0 32 g.args.self.1 (omega arith) g.requires.1)
