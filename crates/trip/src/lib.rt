@@ -151,6 +151,7 @@ pub fn relationship_of(code: u32) -> Named
 }
 
 // Whether the window q stands so to the trip s.
+#[tactic(auto, unfolding(crate::specs::Relationships::related))]
 pub fn stands_so(relationship: Relationship, q: Window, s: Trip) -> bool
     ensures { result ≡ related relationship q s }
 {

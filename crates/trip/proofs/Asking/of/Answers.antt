@@ -1,0 +1,6 @@
+-- The code, and the window of the two times.
+use borrow.Author.Rules.{rules}
+use Rattle.trip.proofs.Asking.of.Goals as goal
+
+pub returns : goal.returns
+returns c = rw c.of.ensures
