@@ -10,7 +10,7 @@ use Prim.Native.Nat.{ℕ, ◌+◌, ◌*◌, ◌/◌, ◌%◌, ◌^◌, ◌≤◌
 use native.Mathlib.Omega.{arith}
 use lib.Dec.{T, eqb}
 use borrow.Author.Tests.{eqb-true, eqb-false}
-use Rattle.lists.proofs.Members.{In, more, of_keep, to_keep, of_sort, to_sort, of_joined, to_joined, pairs_keep, pairs_sort, pairs_joined}
+use Rattle.lists.proofs.Members.{none, In, more, of_keep, to_keep, of_sort, to_sort, of_joined, to_joined, pairs_keep, pairs_sort, pairs_joined}
 use Rattle.ruler.specs.Ruler.{Scale}
 use Rattle.ruler.proofs.Fair.{Fair}
 use Rattle.trip.specs.declared.Trip.{Trip}
@@ -129,6 +129,7 @@ module _ (s : Scale) (fair : Fair s) (ts : List Trip) where
 
 -- in a table with no id twice, an id names one trip
 pub same_id : {ts : List Trip} → Distinct ts → (x y : Trip) → Mem x ts → Mem y ts → x.id ≡ y.id → x ≡ y
+same_id none x y m _ e = elim m [ ]
 same_id (more h d) x y (here p) (here q) e = p ∙ sym q
 same_id (more h d) x y (here p) (there n) e = absurd (h y n (ap (λ (u : Trip). u.id) (sym p) ∙ e))
 same_id (more h d) x y (there m) (here q) e = absurd (h x m (sym (e ∙ ap (λ (u : Trip). u.id) q)))

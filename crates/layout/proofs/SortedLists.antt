@@ -76,6 +76,7 @@ of_ids (t ∷ ts) i (here e) = (t, here refl, e)
 of_ids (t ∷ ts) i (there m) = let w = of_ids ts i m in (w.0, there w.1, w.2)
 
 pub to_ids : (ts : List Trip) (t : Trip) → Mem t ts → Mem t.id (map id_of ts)
+to_ids [] t m = elim m [ ]
 to_ids (u ∷ ts) t (here e) = here (ap id_of e)
 to_ids (u ∷ ts) t (there m) = there (to_ids ts t m)
 
