@@ -31,7 +31,7 @@ module _ (l : List ℕ) (b : ℕ) (input : List ℕ) where
   -- a newline ends the line, and any other byte belongs to it
   pub after-newline : eqb b newline ≡ true → lines_after l (b ∷ input) ≡ l ∷ lines_of input
   unfolding lines_after lines_of parted without_empty_last
-  after-newline e = rw (e, append-nil, parted_first newline input)
+  after-newline e = rw (e, parted_first newline input, append-nil)
 
   pub after_byte : eqb b newline ≡ false → lines_after l (b ∷ input) ≡ lines_after (l ++ (b ∷ [])) input
   unfolding lines_after parted
