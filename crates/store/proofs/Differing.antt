@@ -136,6 +136,7 @@ of_ids (t ∷ ts) i (here e) = (t, here refl, e)
 of_ids (t ∷ ts) i (there m) = let w = of_ids ts i m in (w.0, there w.1, w.2)
 
 to_ids : (ts : List Trip) (t : Trip) → Mem t ts → Mem t.id (ids ts)
+to_ids [] t m = elim m [ ]
 to_ids (u ∷ ts) t (here e) = here (ap (λ (x : Trip). x.id) e)
 to_ids (u ∷ ts) t (there m) = there (to_ids ts t m)
 
