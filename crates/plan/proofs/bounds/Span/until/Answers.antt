@@ -1,0 +1,6 @@
+-- Field by field, as the definition has it.
+use borrow.Author.Rules.{rules}
+use Rattle.plan.proofs.bounds.Span.until.Goals as goal
+
+pub returns : goal.returns
+returns c = cc

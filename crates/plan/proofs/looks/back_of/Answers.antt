@@ -1,0 +1,6 @@
+-- The definition, with the end of the front for its beginning.
+use borrow.Author.Rules.{rules}
+use Rattle.plan.proofs.looks.back_of.Goals as goal
+
+pub returns : goal.returns
+returns c = rw (c.new.ensures, c.front_end.ensures)

@@ -1,0 +1,60 @@
+-- Each arm is the definition's line for its number.
+use mathlib.Core.Path.{◌≡◌, refl, sym, ◌∙◌}
+use Prim.Native.Nat.{ℕ, zero, suc, ◌+◌, ◌≤◌, zero-le}
+use Rattle.layout.specs.declared.Half.TheVariants.{Replicas}
+use Rattle.plan.specs.declared.stretches.Stretches.{Stretches}
+use Rattle.plan.specs.declared.looks.Order.TheVariants.{Other}
+use Rattle.plan.specs.Looks.{back_of, look, look_at}
+use native.Mathlib.Omega.{arith}
+use borrow.Author.Rules.{rules}
+use Rattle.plan.proofs.looks.look_at.Goals as goal
+
+-- a number of at least k that is not k
+more : {n : ℕ} (k : ℕ) → k ≤ n → (n ≡ k → ⊥) → k + 1 ≤ n
+more k h ne = omega (arith, ne)
+
+last-look : (s : Stretches) (k : ℕ) → 6 ≤ k → look_at s k ≡ look Replicas Other (back_of s.replicas)
+unfolding look_at
+last-look s (suc (suc (suc (suc (suc (suc k)))))) h = refl
+last-look s zero h = absurd (omega arith)
+last-look s (suc zero) h = absurd (omega arith)
+last-look s (suc (suc zero)) h = absurd (omega arith)
+last-look s (suc (suc (suc zero))) h = absurd (omega arith)
+last-look s (suc (suc (suc (suc zero)))) h = absurd (omega arith)
+last-look s (suc (suc (suc (suc (suc zero))))) h = absurd (omega arith)
+
+pub returns-in-0 : goal.returns-in-0
+unfolding look_at
+returns-in-0 c = rw (c.new.ensures, c.front_of.ensures, c.in-0.is)
+
+pub returns-in-1 : goal.returns-in-1
+unfolding look_at
+returns-in-1 c = rw (c.new-in-1.ensures, c.back_of.ensures, c.in-1.is)
+
+pub returns-in-2 : goal.returns-in-2
+unfolding look_at
+returns-in-2 c = rw (c.new-in-2.ensures, c.in-2.is)
+
+pub returns-in-3 : goal.returns-in-3
+unfolding look_at
+returns-in-3 c = rw (c.new-in-3.ensures, c.front_of-in-3.ensures, c.in-3.is)
+
+pub returns-in-4 : goal.returns-in-4
+unfolding look_at
+returns-in-4 c = rw (c.new-in-4.ensures, c.back_of-in-4.ensures, c.in-4.is)
+
+pub returns-in-5 : goal.returns-in-5
+unfolding look_at
+returns-in-5 c = rw (c.new-in-5.ensures, c.front_of-in-5.ensures, c.in-5.is)
+
+pub returns-in_default : goal.returns-in_default
+returns-in_default c =
+    let r = c.in-0.rest in
+    let g = c.args in
+    let p0 = more 0 zero-le r.0.0.0.0.0.1 in
+    let p1 = more 1 p0 r.0.0.0.0.1 in
+    let p2 = more 2 p1 r.0.0.0.1 in
+    let p3 = more 3 p2 r.0.0.1 in
+    let p4 = more 4 p3 r.0.1 in
+    let p5 = more 5 p4 r.1 in
+    c.new-in_default.ensures ∙ rw c.back_of-in_default.ensures (sym (last-look g.level g.k p5))

@@ -1,0 +1,32 @@
+-- The window's cells and the ruler's own go to the table.
+use lib.Pow.{pow_pos}
+use Rattle.layout.proofs.RulerCells.{deep-ruler}
+use Rattle.plan.specs.Plan.{plan_for}
+use native.Mathlib.Omega.{arith}
+use borrow.Author.Rules.{rules}
+use Rattle.plan.proofs.range.plan_for.Goals as goal
+
+pub bottom_cell-f-requires : goal.bottom_cell-f-requires
+bottom_cell-f-requires c = let s = c in (s.requires.made, s.requires.on_ruler.starts)
+
+pub bottom_cell-l-requires : goal.bottom_cell-l-requires
+bottom_cell-l-requires c = let s = c in (s.requires.made, s.requires.on_ruler.ends)
+
+pub power-requires : goal.power-requires
+power-requires c = let s = c in
+    omega (arith, c.bottom-m.ensures, deep-ruler s.args.ruler s.requires.made)
+
+pub overflow_sub-power : goal.overflow_sub-power
+overflow_sub-power c = omega (arith, c.power.ensures, pow_pos c.bottom-m.result)
+
+pub returns : goal.returns
+unfolding plan_for
+returns c = rw (
+  c.plan_of.ensures,
+  c.at-last.ensures,
+  c.power.ensures,
+  c.at-first.ensures,
+  c.bottom_cell-l.ensures,
+  c.bottom_cell-f.ensures,
+  c.bottom-m.ensures,
+)

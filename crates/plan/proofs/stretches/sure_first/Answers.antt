@@ -1,0 +1,11 @@
+-- The definition, with the cell after the low one.
+use Rattle.plan.specs.Plan.{sure_first}
+use borrow.Author.Rules.{rules}
+use Rattle.plan.proofs.stretches.sure_first.Goals as goal
+
+pub begins-requires : goal.begins-requires
+begins-requires c = let s = c in rw c.next-after.ensures (s.requires.level_le_low, s.requires.ranged.deep)
+
+pub returns : goal.returns
+unfolding sure_first
+returns c = rw (c.begins.ensures, c.next-after.ensures)

@@ -1,0 +1,23 @@
+-- Some word so far is the id, or one that is left.
+use mathlib.Core.Path.{◌≡◌, refl, sym, ◌∙◌}
+use mathlib.Core.Bool.{◌||◌}
+use Prim.Native.Nat.{◌-◌}
+use native.Mathlib.Omega.{arith}
+use lib.ListN.{length, drop}
+use Rattle.store.specs.Ids.{among}
+use Rattle.store.proofs.Marks.{among_next, among_end}
+use Rattle.store.proofs.ids.has.Goals as goal
+
+pub loop-i-init : goal.loop-i-init
+loop-i-init c = refl
+
+pub loop-i-preserved : goal.loop-i-preserved
+loop-i-preserved c =
+    let turn = c in
+    let args = turn.args in
+    among_next turn.loop-i.found args.id args.words.now turn.loop-i.i (omega arith) ∙ turn.loop-i.invariant
+
+pub returns : goal.returns
+returns c =
+    let args = c.args in
+    sym (among_end c.loop-i.found args.id args.words.now c.loop-i.i (omega arith)) ∙ c.loop-i.invariant

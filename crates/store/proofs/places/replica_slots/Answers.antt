@@ -1,0 +1,20 @@
+-- The cells of the trip's times at the deepest level are those of the scale.
+use mathlib.Core.Path.{refl}
+use Rattle.store.specs.TripWalk.{slots_of_trip}
+use Rattle.layout.proofs.RulerCells.{deep-ruler, first_cell_lem, last_cell_lem}
+use borrow.Author.Rules.{rules}
+use Rattle.store.proofs.places.replica_slots.Goals as goal
+
+pub slots_of-requires : goal.slots_of-requires
+slots_of-requires c =
+    let g = c in
+    let r = g.args.ruler in
+    let fits = g.requires.fits.0 in
+    rw (c.bottom_cell-last.ensures, c.bottom_cell-first.ensures)
+    (deep-ruler r g.requires.made, refl, first_cell_lem r g.requires.made g.args.t fits, last_cell_lem r g.requires.made g.args.t fits, g.requires.fits.1)
+
+pub returns : goal.returns
+unfolding slots_of_trip
+returns c =
+    let k = c in
+    rw (k.bottom_cell-last.ensures, k.bottom_cell-first.ensures) at c.slots_of.ensures

@@ -1,0 +1,87 @@
+-- What is written and the rest of the walk are the whole walk.
+use mathlib.Core.Path.{◌∙◌}
+use Prim.Native.Nat.{◌≤◌, ◌<◌}
+use borrow.Author.Tests.{leb-true, leb-false}
+use Rattle.store.specs.TripWalk.{slots_of}
+use Rattle.store.proofs.Walking.{Going, going_start, going_level, going_none, going_turn, going_end, wrote_long}
+use native.Mathlib.Omega.{arith}
+use Rattle.store.proofs.places.slots_of.Goals as goal
+
+pub next-hi-requires : goal.next-hi-requires
+next-hi-requires c = let p = c.requires in rw p.1 (p.0, omega arith)
+
+pub loop-half-init : goal.loop-half-init
+loop-half-init c =
+    let s = c in
+    let p = s.requires in
+    rw c.next-hi.ensures (going_start s.args.half s.args.a s.args.b s.args.spots.now p.0 p.1 p.3 p.4)
+
+pub no_later-requires : goal.no_later-requires
+no_later-requires c = c.loop-half.invariant.high_level
+
+pub shape_of-spots-then-no_later : goal.shape_of-spots-then-no_later
+shape_of-spots-then-no_later c = c.loop-half.invariant.walking.long
+
+pub returns-then-no_later : goal.returns-then-no_later
+returns-then-no_later c =
+    let k = c.loop-half in
+    let none : k.hi.1 ≤ k.lo.1 = leb-true _ _ (rw c.no_later.ensures at c.if-no_later.true) in
+    going_none k.invariant none
+
+pub visited_at-n-requires : goal.visited_at-n-requires
+visited_at-n-requires c =
+    let k = c.loop-half in
+    let some : k.lo.1 < k.hi.1 = leb-false _ _ (rw c.no_later.ensures at c.if-no_later.false) in
+    going_level k.invariant some
+
+pub shape_of-spots-then-level-eq0 : goal.shape_of-spots-then-level-eq0
+shape_of-spots-then-level-eq0 c =
+    let v = c in
+    wrote_long v.visited_at-n.ensures ∙ v.loop-half.invariant.walking.long
+
+pub returns-then-level-eq0 : goal.returns-then-level-eq0
+returns-then-level-eq0 c =
+    let v = c in
+    let k = v.loop-half in
+    let some : k.lo.1 < k.hi.1 = leb-false _ _ (rw v.no_later.ensures at v.if-no_later.false) in
+    going_end k.invariant _ _ some v.visited_at-n.ensures (omega (arith, c.level.ensures))
+
+pub next-requires : goal.next-requires
+next-requires c =
+    let v = c in
+    let k = v.loop-half in
+    let some : k.lo.1 < k.hi.1 = leb-false _ _ (rw v.no_later.ensures at v.if-no_later.false) in
+    let l = (going_level k.invariant some).1 in
+    (l.deep, l.low)
+
+pub above-lo-requires : goal.above-lo-requires
+above-lo-requires c = rw c.next.ensures (omega (arith, c.level.ensures))
+
+pub above-hi-requires : goal.above-hi-requires
+above-hi-requires c =
+    let i = c in
+    omega (arith, i.level.ensures, c.loop-half.invariant.high_level)
+
+pub above-first-requires : goal.above-first-requires
+above-first-requires c =
+    let i = c in
+    omega (arith, i.level.ensures, c.loop-half.invariant.first_level)
+
+pub above-last-requires : goal.above-last-requires
+above-last-requires c =
+    let i = c in
+    omega (arith, i.level.ensures, c.loop-half.invariant.last_level)
+
+pub loop-half-smaller : goal.loop-half-smaller
+loop-half-smaller c =
+    let u = c in
+    rw (u.above-lo.ensures, u.next.ensures) (omega (arith, u.level.ensures))
+
+pub loop-half-preserved : goal.loop-half-preserved
+loop-half-preserved c =
+    let u = c in
+    let v = u in
+    let k = v.loop-half in
+    let some : k.lo.1 < k.hi.1 = leb-false _ _ (rw v.no_later.ensures at v.if-no_later.false) in
+    rw (c.above-last.ensures, c.above-first.ensures, c.above-hi.ensures, u.above-lo.ensures, u.next.ensures)
+    (going_turn k.invariant _ _ some v.visited_at-n.ensures (omega (arith, u.level.ensures)))

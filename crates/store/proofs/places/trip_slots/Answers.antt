@@ -1,0 +1,18 @@
+-- One original, at its home; the replicas by a walk.
+use mathlib.Core.Path.{refl}
+use Rattle.layout.proofs.RulerCells.{fair_ruler}
+use Rattle.store.proofs.Walking.{set_first}
+use Rattle.store.proofs.Homes.{one_home}
+use native.Mathlib.Omega.{arith}
+use borrow.Author.Rules.{rules}
+use Rattle.store.proofs.places.trip_slots.Goals as goal
+
+pub returns-in-Originals : goal.returns-in-Originals
+returns-in-Originals c =
+    let g = c in
+    let half = c.in-Originals.is in
+    let home = one_home _ (fair_ruler g.args.ruler g.requires.made) g.args.t g.requires.fits.0 in
+    rw (half, home, c.home.ensures) (refl, set_first _ _ (omega (arith, g.requires.fits.1)))
+
+pub returns-in-Replicas : goal.returns-in-Replicas
+returns-in-Replicas c = let half = c.in-Replicas.is in rw half c.replica_slots.ensures

@@ -1,0 +1,29 @@
+-- One visit after the other.
+use lib.Dec.{eqb}
+use Rattle.store.proofs.TripWalk.{visit-few}
+use Rattle.store.specs.TripSlots.{visits_at}
+use Rattle.store.proofs.Walking.{wrote_long, wrote_both}
+use native.Mathlib.Omega.{arith}
+use borrow.Author.Rules.{rules}
+use Rattle.store.proofs.places.visited_at.Goals as goal
+
+pub visited-requires : goal.visited-requires
+visited-requires c =
+    let s = c in
+    let g = s.args in
+    let p = s.requires.1 in
+    let v = s.visited-k.ensures in
+    let long = wrote_long v in
+    let few = visit-few g.half (eqb s.parity.result 1) g.lo.0 g.lo.1 g.first.1 g.last.1 in
+    rw (c.first_of_two.ensures, p.high_level)
+    record { n_in_bounds = (omega (arith, v.many, few), p.deep, omega (arith, p.high)); first_value = (p.first_level, p.last_level) }
+
+pub returns : goal.returns
+unfolding visits_at
+returns c =
+    let at-parity2 = c in
+    let k = at-parity2 in
+    let u = c in
+    let e = rw k.parity.ensures at k.visited-k.ensures in
+    let f = rw (u.first_of_two.ensures, at-parity2.parity-2.ensures) at u.visited.ensures in
+    wrote_both e f

@@ -1,0 +1,42 @@
+-- The loop's invariant is `Meeting`: the rows before low come before the trip, and those from high on do not.
+use mathlib.Core.Path.{sym, ◌∙◌}
+use Prim.Native.Nat.{◌+◌, ◌-◌, ◌/◌, ◌≤◌}
+use lib.ListN.{length}
+use Rattle.layout.specs.Words.{entry_words}
+use Rattle.store.proofs.Found.{Meeting, search_start, search_up, search_down, search_end}
+use native.Mathlib.Omega.{arith}
+use borrow.Author.Rules.{rules}
+use Rattle.store.proofs.search.find_place.Goals as goal
+
+pub loop-low-init : goal.loop-low-init
+loop-low-init c =
+    let start = c in
+    (search_start start.args.part.now start.args.d start.args.t start.requires, omega arith)
+
+pub loop-low-preserved-then-precedes : goal.loop-low-preserved-then-precedes
+loop-low-preserved-then-precedes c =
+    let start = c in
+    let read = c in
+    let at = c.loop-low in (
+      search_up start.args.part.now start.args.d start.args.t start.requires at.low at.high (at.low + (at.high - at.low) / 2)
+          read.trip_at.result at.invariant.0 (omega arith) (omega arith) read.trip_at.ensures
+          (sym c.precedes.ensures ∙ c.if-precedes.true),
+      omega arith,
+    )
+
+pub loop-low-preserved : goal.loop-low-preserved
+loop-low-preserved c =
+    let start = c in
+    let read = c in
+    let at = c.loop-low in (
+      search_down start.args.part.now start.args.d start.args.t start.requires at.low at.high (at.low + (at.high - at.low) / 2)
+          read.trip_at.result at.invariant.0 (omega arith) (omega arith) read.trip_at.ensures
+          (sym c.precedes.ensures ∙ c.if-precedes.false),
+      omega arith,
+    )
+
+pub returns : goal.returns
+returns c =
+    let start = c in
+    let at = c.loop-low in
+    search_end start.args.part.now start.args.d start.args.t start.requires at.low at.high (omega arith) at.invariant.0
