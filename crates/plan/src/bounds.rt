@@ -126,6 +126,7 @@ impl Bounds {
 const FAR: u32 = 4294967295;
 
 // The bounds of the trips to which a window stands so.
+#[tactic(auto, unfolding(crate::specs::Bounds::bounds_of))]
 pub fn bounds_of(relationship: Relationship, q: Window) -> Bounds
     requires { (q.start.0 < far) × (q.end.0 < far) }
     ensures { result ≡ bounds_of relationship q }

@@ -9,10 +9,6 @@ use native.Mathlib.Omega.{arith}
 use borrow.Author.Rules.{rules}
 use Rattle.plan.proofs.looks.look_at.Goals as goal
 
--- a number of at least k that is not k
-more : {n : ℕ} (k : ℕ) → k ≤ n → (n ≡ k → ⊥) → k + 1 ≤ n
-more k h ne = omega (arith, ne)
-
 last-look : (s : Stretches) (k : ℕ) → 6 ≤ k → look_at s k ≡ look Replicas Other (back_of s.replicas)
 unfolding look_at
 last-look s (suc (suc (suc (suc (suc (suc k)))))) h = refl
@@ -49,12 +45,6 @@ returns-in-5 c = rw (c.new-in-5.ensures, c.front_of-in-5.ensures, c.in-5.is)
 
 pub returns-in_default : goal.returns-in_default
 returns-in_default c =
-    let r = c.in-0.rest in
     let g = c.args in
-    let p0 = more 0 zero-le r.0.0.0.0.0.1 in
-    let p1 = more 1 p0 r.0.0.0.0.1 in
-    let p2 = more 2 p1 r.0.0.0.1 in
-    let p3 = more 3 p2 r.0.0.1 in
-    let p4 = more 4 p3 r.0.1 in
-    let p5 = more 5 p4 r.1 in
-    c.new-in_default.ensures ∙ rw c.back_of-in_default.ensures (sym (last-look g.level g.k p5))
+    let past : 6 ≤ g.k = omega arith in
+    c.new-in_default.ensures ∙ rw c.back_of-in_default.ensures (sym (last-look g.level g.k past))

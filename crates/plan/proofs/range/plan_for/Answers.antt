@@ -7,10 +7,10 @@ use borrow.Author.Rules.{rules}
 use Rattle.plan.proofs.range.plan_for.Goals as goal
 
 pub bottom_cell-f-requires : goal.bottom_cell-f-requires
-bottom_cell-f-requires c = let s = c in (s.requires.made, s.requires.on_ruler.starts)
+bottom_cell-f-requires c = record { made = c.requires.made; t = c.requires.on_ruler.starts }
 
 pub bottom_cell-l-requires : goal.bottom_cell-l-requires
-bottom_cell-l-requires c = let s = c in (s.requires.made, s.requires.on_ruler.ends)
+bottom_cell-l-requires c = record { made = c.requires.made; t = c.requires.on_ruler.ends }
 
 pub power-requires : goal.power-requires
 power-requires c = let s = c in

@@ -16,15 +16,15 @@ slot_at-q-requires c =
 pub overflow_add-half : goal.overflow_add-half
 overflow_add-half c =
     let s = c in
-    let i = slots_in s.args.plan s.pre.0 s.args.level s.pre.1 in
-    let h = half_small c.level.result (omega (arith, s.pre.0.deep)) in
+    let i = slots_in s.args.plan s.requires.ranged s.args.level s.requires.level_le_low in
+    let h = half_small c.level.result (omega (arith, s.requires.ranged.deep)) in
     omega (arith, half_small deepest (omega arith), c.slot_at-p.ensures, c.half_length-half.ensures)
 
 pub overflow_add-half-2 : goal.overflow_add-half-2
 overflow_add-half-2 c =
     let s = c in
-    let i = slots_in s.args.plan s.pre.0 s.args.level s.pre.1 in
-    let h = half_small c.level.result (omega (arith, s.pre.0.deep)) in
+    let i = slots_in s.args.plan s.requires.ranged s.args.level s.requires.level_le_low in
+    let h = half_small c.level.result (omega (arith, s.requires.ranged.deep)) in
     omega (
       arith,
       half_small deepest (omega arith),
@@ -36,8 +36,8 @@ overflow_add-half-2 c =
 pub overflow_add-half-3 : goal.overflow_add-half-3
 overflow_add-half-3 c =
     let s = c in
-    let i = slots_in s.args.plan s.pre.0 s.args.level s.pre.1 in
-    let h = half_small c.level.result (omega (arith, s.pre.0.deep)) in
+    let i = slots_in s.args.plan s.requires.ranged s.args.level s.requires.level_le_low in
+    let h = half_small c.level.result (omega (arith, s.requires.ranged.deep)) in
     let k = few_slots s.args.plan.kind in
     omega (
       arith,
@@ -51,7 +51,7 @@ overflow_add-half-3 c =
 pub arranged-requires : goal.arranged-requires
 arranged-requires c =
     let s = c in
-    let i = slots_in s.args.plan s.pre.0 s.args.level s.pre.1 in
+    let i = slots_in s.args.plan s.requires.ranged s.args.level s.requires.level_le_low in
     let k = few_slots s.args.plan.kind in (
       omega (arith, c.slot_at-p.ensures),
       omega (arith, c.slot_at-q.ensures),
