@@ -1,6 +1,6 @@
 -- The two tests in their order.
-use mathlib.Core.Path.{refl, sym, ◌∙◌}
-use mathlib.Core.Bool.{true, false}
+use mathlib.Core.Path.{refl, sym, ap, ◌∙◌}
+use mathlib.Core.Bool.{true, false, not}
 use Rattle.ruler.specs.Ruler.{scale}
 use Rattle.layout.specs.Refusals.{refuse, backward}
 use Rattle.layout.proofs.Chains.{off_said, times-said}
@@ -12,7 +12,7 @@ unfolding refuse
 returns-then-off_ruler c =
     let a = c.args in
     let off = off_said (scale a.ruler) a.start a.end true
-    c.has.ensures c.has-2.ensures c.if-off_ruler.true-raw in
+    c.has.ensures c.has-2.ensures (ap not c.if-off_ruler.true) in
     c.refused.ensures ∙ times-said (scale a.ruler) a.start a.end a.detail true _ off refl
 
 pub returns-then-backward : goal.returns-then-backward
@@ -20,7 +20,7 @@ unfolding refuse backward
 returns-then-backward c =
     let a = c.args in
     let off = off_said (scale a.ruler) a.start a.end false
-    c.has.ensures c.has-2.ensures c.if-off_ruler.false-raw in
+    c.has.ensures c.has-2.ensures (ap not c.if-off_ruler.false) in
     c.refused-then-backward.ensures ∙ times-said (scale a.ruler) a.start a.end a.detail false true off
     (sym c.before-backward.ensures ∙ c.if-backward.true)
 
@@ -29,6 +29,6 @@ unfolding refuse backward
 returns c =
     let a = c.args in
     let off = off_said (scale a.ruler) a.start a.end false
-    c.has.ensures c.has-2.ensures c.if-off_ruler.false-raw in
+    c.has.ensures c.has-2.ensures (ap not c.if-off_ruler.false) in
     times-said (scale a.ruler) a.start a.end a.detail false false off
     (sym c.before-backward.ensures ∙ c.if-backward.false)
