@@ -1,0 +1,17 @@
+-- The trips left are all known exactly if all of them are.
+use mathlib.Core.Path.{◌≡◌}
+use Prim.Native.Nat.{◌-◌}
+use lib.ListN.{drop}
+use Rattle.ruler.specs.Ruler.{scale}
+use Rattle.layout.specs.Words.{rows}
+use Rattle.verify.specs.Passing.{each}
+use Rattle.verify.specs.Local.{is_known}
+use Rattle.verify.proofs.origin.all_known.Given as goal
+
+abbrev pub invariant-loop-k : goal.invariant-loop-k
+invariant-loop-k l =
+    let p = is_known (scale l.ruler) l.dir l.originals in
+    each p (drop l.k (rows l.part)) ≡ each p (rows l.part)
+
+abbrev pub decreases-loop-k : goal.decreases-loop-k
+decreases-loop-k l = l.n - l.k

@@ -1,0 +1,52 @@
+-- The places where the trip may stand are halved until one is left.
+use mathlib.Core.Path.{sym, ◌∙◌}
+use Prim.Native.Nat.{◌+◌, ◌/◌, ◌<◌}
+use lib.ListN.{length}
+use Rattle.layout.specs.Words.{entry_words}
+use Rattle.store.specs.Ordered.{key_place}
+use Rattle.store.proofs.Classes.{narrow_start}
+use Rattle.lists.proofs.Upto.{length-up_to}
+use Rattle.verify.proofs.Known.{found_nowhere, found_step, found_there}
+use native.Mathlib.Omega.{arith}
+use Rattle.verify.proofs.origin.has_trip.Goals as goal
+
+pub returns-then-n-eq0 : goal.returns-then-n-eq0
+returns-then-n-eq0 c =
+    let g = c in
+    found_nowhere g.args.part.now g.args.t g.args.key g.requires.key_value (omega (arith, g.requires.n_value))
+
+pub loop-width-init : goal.loop-width-init
+loop-width-init c = let g = c in narrow_start _ _ g.args.n (omega arith) (length-up_to _ _ ∙ sym g.requires.n_value)
+
+pub overflow_add-low : goal.overflow_add-low
+overflow_add-low c =
+    let middle : c.loop-width.low + c.loop-width.width / 2 < length c.args.part.now / entry_words = let inside = c.loop-width.invariant.inside in omega (arith, rw length-up_to at inside) in
+    omega (arith, middle)
+
+pub key_at-there-requires : goal.key_at-there-requires
+key_at-there-requires c =
+    let middle : c.loop-width.low + c.loop-width.width / 2 < length c.args.part.now / entry_words = let inside = c.loop-width.invariant.inside in omega (arith, rw length-up_to at inside) in
+    (middle, omega arith)
+
+pub overflow_add-low-in-loop-width : goal.overflow_add-low-in-loop-width
+overflow_add-low-in-loop-width c =
+    let middle : c.loop-width.low + c.loop-width.width / 2 < length c.args.part.now / entry_words = let inside = c.loop-width.invariant.inside in omega (arith, rw length-up_to at inside) in
+    omega (arith, middle)
+
+pub loop-width-preserved : goal.loop-width-preserved
+unfolding key_place
+loop-width-preserved c =
+    let k = c.loop-width in
+    let g = c in
+    found_step g.args.part.now g.args.t g.args.key g.requires.key_value (λ i. omega (arith, c.type_inv.part i)) g.requires.in_order
+    k.low k.width c.key_at-there.result c.narrowed-low.result k.invariant (omega arith) c.key_at-there.ensures c.narrowed-low.ensures
+
+pub trip_at-requires : goal.trip_at-requires
+trip_at-requires c = let w = c.loop-width.invariant in let inside = w.inside in omega (arith, w.some, rw length-up_to at inside)
+
+pub returns : goal.returns
+returns c =
+    let g = c in
+    let k = c.loop-width in
+    rw (c.same.ensures, c.trip_at.ensures)
+    (found_there g.args.part.now g.args.t g.args.key g.requires.key_value k.low k.width k.invariant (omega arith))

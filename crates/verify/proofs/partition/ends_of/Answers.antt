@@ -1,0 +1,63 @@
+-- Each case of `ends_of`.
+use mathlib.Core.Path.{◌≡◌}
+use mathlib.Core.Bool.{true, false, ◌||◌}
+use Prim.Native.Nat.{◌%◌, ◌<◌}
+use lib.Dec.{eqb}
+use borrow.Author.Tests.{not-false}
+use Rattle.layout.specs.Stored.{last_cell}
+use Rattle.verify.specs.Frames.{ends_of}
+use Rattle.verify.proofs.Framed.{parent_lt, cells_in, first_of_two_lem}
+use native.Mathlib.Omega.{arith}
+use Rattle.verify.proofs.partition.ends_of.Goals as goal
+
+pub next-after-requires : goal.next-after-requires
+next-after-requires c =
+    let s = c in
+    let p = s.args.partition in
+    rw c.last_at-last.ensures (s.requires.0, omega (arith, cells_in s.args.m p.0 p.1 s.requires.1 s.requires.2))
+
+pub returns-then-not-aft : goal.returns-then-not-aft
+unfolding ends_of last_cell
+returns-then-not-aft c =
+    let ends : c.args.aft ≡ false = c.if-not-aft.true in
+    rw (ends, c.next-after.ensures, c.last_at-last.ensures)
+
+pub returns-then-level-parity : goal.returns-then-level-parity
+unfolding ends_of last_cell
+returns-then-level-parity c =
+    let e = c in
+    let k = e in
+    let aft : k.args.aft ≡ true = not-false _ k.if-not-aft.false-raw in
+    let last = rw (e.parity.ensures, e.level.ensures) at e.if-level-parity.true in
+    rw (aft, last, c.at.ensures, c.power.ensures, k.next-after.ensures, k.last_at-last.ensures)
+
+pub above-requires : goal.above-requires
+above-requires c =
+    let tested : eqb c.args.partition.0 0 || eqb (c.args.partition.1 % 2) 1 ≡ false = rw (c.parity.ensures, c.level.ensures) at c.if-level-parity.false in
+    let first : (0 < c.args.partition.0) × (c.args.partition.1 % 2 ≡ 0) = first_of_two_lem c.args.partition.0 c.args.partition.1 tested in
+    first.0
+
+pub last_at-requires : goal.last_at-requires
+last_at-requires c =
+    let tested : eqb c.args.partition.0 0 || eqb (c.args.partition.1 % 2) 1 ≡ false = rw (c.parity.ensures, c.level.ensures) at c.if-level-parity.false in
+    let first : (0 < c.args.partition.0) × (c.args.partition.1 % 2 ≡ 0) = first_of_two_lem c.args.partition.0 c.args.partition.1 tested in
+    let s = c in
+    let p = s.args.partition in
+    let l = first.0 in
+    rw c.above.ensures (omega (arith, s.requires.1), s.requires.0, parent_lt p.0 p.1 l s.requires.2)
+
+pub returns : goal.returns
+unfolding ends_of last_cell
+returns c =
+    let tested : eqb c.args.partition.0 0 || eqb (c.args.partition.1 % 2) 1 ≡ false = rw (c.parity.ensures, c.level.ensures) at c.if-level-parity.false in
+    let e = c in
+    let k = e in
+    let aft : k.args.aft ≡ true = not-false _ k.if-not-aft.false-raw in
+    rw (
+      aft,
+      tested,
+      c.last_at.ensures,
+      c.above.ensures,
+      k.next-after.ensures,
+      k.last_at-last.ensures,
+    )
