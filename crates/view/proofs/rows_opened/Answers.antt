@@ -1,0 +1,22 @@
+-- By cases: the rows of the directory, or zeros.
+use mathlib.Core.Path.{sym, ap, ◌∙◌}
+use Rattle.layout.specs.Calls.{no_census}
+use Rattle.view.specs.Directory.{rows_of}
+use Rattle.view.specs.Views.{rows_opened}
+use Rattle.view.proofs.rows_opened.Goals as goal
+
+pub level_rows-requires : goal.level_rows-requires
+level_rows-requires c =
+    let g = c in
+    rw c.bottom.ensures (g.requires.halves c.in-Index.ruler c.in-Index.is)
+
+pub returns-in-Index : goal.returns-in-Index
+unfolding rows_opened
+returns-in-Index c =
+    let a = c.args in
+    c.level_rows.ensures ∙ ap (rows_of a.directory.now) c.bottom.ensures
+    ∙ sym (ap (λ o. rows_opened o a.directory.now) c.in-Index.is)
+
+pub returns-in-Refused : goal.returns-in-Refused
+unfolding rows_opened no_census
+returns-in-Refused c = rw c.in-Refused.is

@@ -1,0 +1,7 @@
+-- That of the place.
+use mathlib.Core.Path.{ap}
+use Rattle.view.specs.declared.Place.{Place}
+use Rattle.view.proofs.run_from.Goals as goal
+
+pub returns : goal.returns
+returns c = ap (λ (p : Place). p.from) c.run_place-p.ensures
