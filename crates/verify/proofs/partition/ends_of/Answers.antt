@@ -3,7 +3,6 @@ use mathlib.Core.Path.{◌≡◌}
 use mathlib.Core.Bool.{true, false, ◌||◌}
 use Prim.Native.Nat.{◌%◌, ◌<◌}
 use lib.Dec.{eqb}
-use borrow.Author.Tests.{not-false}
 use Rattle.layout.specs.Stored.{last_cell}
 use Rattle.verify.specs.Frames.{ends_of}
 use Rattle.verify.proofs.Framed.{parent_lt, cells_in, first_of_two_lem}
@@ -27,7 +26,7 @@ unfolding ends_of last_cell
 returns-then-level-parity c =
     let e = c in
     let k = e in
-    let aft : k.args.aft ≡ true = not-false _ k.if-not-aft.false-raw in
+    let aft : k.args.aft ≡ true = k.if-not-aft.false in
     let last = rw (e.parity.ensures, e.level.ensures) at e.if-level-parity.true in
     rw (aft, last, c.at.ensures, c.power.ensures, k.next-after.ensures, k.last_at-last.ensures)
 
@@ -52,7 +51,7 @@ returns c =
     let tested : eqb c.args.partition.0 0 || eqb (c.args.partition.1 % 2) 1 ≡ false = rw (c.parity.ensures, c.level.ensures) at c.if-level-parity.false in
     let e = c in
     let k = e in
-    let aft : k.args.aft ≡ true = not-false _ k.if-not-aft.false-raw in
+    let aft : k.args.aft ≡ true = k.if-not-aft.false in
     rw (
       aft,
       tested,
