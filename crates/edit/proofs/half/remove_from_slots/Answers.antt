@@ -1,0 +1,60 @@
+-- After j turns the first j of the trip's slots are changed: for every index that the words at entry are of.
+use mathlib.Core.Path.{◌≡◌, refl}
+use Prim.Native.Nat.{◌-◌, ◌≤◌}
+use lib.ListN.{length}
+use Rattle.ruler.specs.Ruler.{Scale}
+use Rattle.layout.specs.Words.{Index}
+use Rattle.store.specs.TripWalk.{slots_of_trip}
+use Rattle.store.specs.Slots.{Holds}
+use Rattle.edit.specs.HalfEdited.{Removing}
+use Rattle.edit.proofs.Shrunk.{shrunk_slots, shrunk_start, shrunk_there, shrunk_turn, shrunk_end}
+use native.Mathlib.Omega.{arith}
+use borrow.Author.Rules.{rules}
+use Rattle.edit.proofs.half.remove_from_slots.Goals as goal
+
+pub loop-j-init : goal.loop-j-init
+loop-j-init c = let g = c.args in (
+  omega arith,
+  refl,
+  refl,
+  λ s x a e. shrunk_start s g.half x g.t g.dir.now
+      g.arena.now a,
+)
+
+pub overflow_cast-spot : goal.overflow_cast-spot
+overflow_cast-spot c = omega (arith, c.type_inv.spots c.loop-j.j)
+
+pub remove_from_slot-requires : goal.remove_from_slot-requires
+remove_from_slot-requires c =
+    let s = c in
+    let g = s.args in
+    let l = c.loop-j in
+    let a = s.requires.2 in (
+      shrunk_slots s.requires.0 g.half s.requires.1 g.t g.dir.now g.arena.now a l.j,
+      shrunk_there s.requires.0 g.half s.requires.1 g.t g.dir.now g.arena.now a g.spots.now s.requires.3 l.dir l.arena
+          l.j (l.invariant.3 s.requires.0 s.requires.1 a s.requires.3) (omega arith),
+    )
+
+pub loop-j-preserved : goal.loop-j-preserved
+loop-j-preserved c =
+    let g = c.args in
+    let l = c.loop-j in (
+      omega arith,
+      omega (arith, c.remove_from_slot.auto),
+      omega (arith, c.remove_from_slot.auto),
+      λ s x a e. shrunk_turn s g.half x g.t g.dir.now g.arena.now a g.spots.now e l.dir l.arena l.j
+          (l.inv.3 s x a e) (omega arith) _ _ c.remove_from_slot.ensures,
+    )
+
+pub shape_of-dir : goal.shape_of-dir
+shape_of-dir c = c.loop-j.invariant.1
+
+pub shape_of-arena : goal.shape_of-arena
+shape_of-arena c = c.loop-j.invariant.2
+
+pub returns : goal.returns
+returns c =
+    let g = c.args in
+    let l = c.loop-j in
+    λ s x a e. shrunk_end s g.half x g.t g.dir.now g.arena.now a g.spots.now e l.dir l.arena l.j (l.invariant.3 s x a e)
+    l.invariant.2 (omega arith)
