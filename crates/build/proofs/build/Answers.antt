@@ -7,7 +7,6 @@ use Rattle.ruler.proofs.Fair.{scale-good}
 use Rattle.layout.specs.declared.Outcome.{Outcome}
 use Rattle.layout.specs.Calls.{index, after, build_of}
 use Rattle.build.proofs.Outcomes.{says_1}
-use borrow.Author.Rules.{rules}
 use Rattle.build.proofs.build.Goals as goal
 
 pub returns-in_default : goal.returns-in_default

@@ -4,7 +4,6 @@ use mathlib.Core.Bool.{true}
 use mathlib.Core.List.{◌++◌}
 use Prim.Native.Nat.{◌+◌, ◌%◌}
 use lib.ListN.{length}
-use borrow.Author.Tests.{not-true, not-false}
 use Rattle.ruler.specs.Ruler.{scale}
 use Rattle.layout.specs.Words.{entry_words, rows, half_length}
 use Rattle.layout.specs.Refusals.{is_accepted}
@@ -14,7 +13,6 @@ use Rattle.store.proofs.Halves.{two_halves, second_long, first_next, second_firs
 use Rattle.build.specs.RowsJudged.{lengths}
 use Rattle.build.proofs.Outcomes.{left_old, left_new, accepted-table, first_half_lem, second_half_lem, rows-room}
 use native.Mathlib.Omega.{arith}
-use borrow.Author.Rules.{rules}
 use Rattle.build.proofs.build_on.Goals as goal
 
 pub returns-then-not-is_accepted : goal.returns-then-not-is_accepted

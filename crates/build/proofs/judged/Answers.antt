@@ -1,12 +1,10 @@
 -- One link of the chain after another.
 use mathlib.Core.Path.{sym, ap, ◌∙◌}
-use borrow.Author.Tests.{not-true, not-false}
 use Rattle.layout.specs.Words.{directory_length}
 use Rattle.layout.specs.Refusals.{bad_size}
 use Rattle.layout.proofs.RulerCells.{deep-ruler}
 use Rattle.build.proofs.Outcomes.{says_2, few-rows, says_3, says_bad, tested, says_7, says_0}
 use native.Mathlib.Omega.{arith}
-use borrow.Author.Rules.{rules}
 use Rattle.build.proofs.judged.Goals as goal
 
 pub returns-then-words : goal.returns-then-words

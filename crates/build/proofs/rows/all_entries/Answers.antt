@@ -1,11 +1,7 @@
 -- The sum so far, with that of the rows left, is that of all.
 use mathlib.Core.Path.{◌≡◌, sym, ap, subst, ◌∙◌}
-use Prim.Native.Nat.{◌+◌, ◌-◌, ◌*◌, ◌/◌, ◌≤◌}
-use lib.ListN.{length, drop}
-use Rattle.lists.specs.Lists.{sum_over}
-use Rattle.ruler.specs.Ruler.{deepest, scale}
-use Rattle.layout.specs.Stored.{most_partitions}
-use Rattle.layout.specs.Words.{entry_words, trip_at, rows, partitions_holding}
+use Rattle.ruler.specs.Ruler.{scale}
+use Rattle.layout.specs.Words.{trip_at, partitions_holding}
 use Rattle.layout.specs.Refusals.{Fits}
 use Rattle.layout.proofs.MostPartitions.{deepest_most}
 use Rattle.layout.proofs.Rows.{length-rows}

@@ -1,13 +1,11 @@
 -- The rows passed their tests, so those left decide.
-use mathlib.Core.Path.{◌≡◌, refl, sym, ap, ◌∙◌}
-use mathlib.Core.List.{[]}
-use Prim.Native.Nat.{◌+◌, ◌-◌, ◌/◌, ◌≤◌}
-use lib.ListN.{length, drop}
-use borrow.Author.Tests.{not-true, not-false}
+use mathlib.Core.Path.{refl, sym, ap, ◌∙◌}
+use Prim.Native.Nat.{◌+◌}
+use lib.ListN.{drop}
 use Rattle.ruler.specs.Ruler.{scale}
 use Rattle.layout.specs.declared.Outcome.{Outcome}
 use Rattle.layout.specs.declared.Outcome.TheVariants.{Accepted}
-use Rattle.layout.specs.Words.{entry_words, rows}
+use Rattle.layout.specs.Words.{rows}
 use Rattle.layout.specs.Refusals.{first_bad_row}
 use Rattle.layout.proofs.Links.{and_then, then_refused, then_accepted}
 use Rattle.build.specs.RowsJudged.{rows_back}

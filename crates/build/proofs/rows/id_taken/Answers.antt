@@ -1,7 +1,6 @@
 -- Where no id stands twice, none is taken.
 use mathlib.Core.Path.{sym, ◌∙◌}
 use Rattle.build.proofs.RowsJudged.{before-none}
-use borrow.Author.Rules.{rules}
 use Rattle.build.proofs.rows.id_taken.Goals as goal
 
 pub returns-then-differ : goal.returns-then-differ

@@ -6,7 +6,6 @@ use Rattle.layout.proofs.MostEntries.{all_most}
 use Rattle.layout.proofs.RulerCells.{deep-ruler}
 use Rattle.build.proofs.RowsJudged.{rows-within, room-tested}
 use native.Mathlib.Omega.{arith}
-use borrow.Author.Rules.{rules}
 use Rattle.build.proofs.rows.lacks_room.Goals as goal
 
 pub overflow_sub-result : goal.overflow_sub-result

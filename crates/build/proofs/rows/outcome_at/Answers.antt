@@ -2,7 +2,6 @@
 use mathlib.Core.Path.{ap, ◌∙◌}
 use Rattle.trip.specs.declared.Trip.{Trip}
 use Rattle.layout.specs.Refusals.{row_tests}
-use borrow.Author.Rules.{rules}
 use Rattle.build.proofs.rows.outcome_at.Goals as goal
 
 pub id_taken-taken-requires : goal.id_taken-taken-requires
