@@ -5,5 +5,4 @@ use Rattle.build.proofs.rows.id_taken.Goals as goal
 
 pub returns-then-differ : goal.returns-then-differ
 returns-then-differ c =
-    let g = c in
-    sym (before-none g.args.table.now g.args.i g.args.id g.requires.i_in_bounds g.requires.id_value (sym g.requires.differ_value ∙ c.if-differ.true))
+    sym (before-none c.args.table.now c.args.i c.args.id c.requires.i_in_bounds c.requires.id_value (sym c.requires.differ_value ∙ c.if-differ.true))
