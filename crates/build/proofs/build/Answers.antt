@@ -7,7 +7,6 @@ use Rattle.ruler.proofs.Fair.{scale-good}
 use Rattle.layout.specs.declared.Outcome.{Outcome}
 use Rattle.layout.specs.Calls.{index, after, build_of}
 use Rattle.build.proofs.Outcomes.{says_1}
-use borrow.Author.Rules.{rules}
 use Rattle.build.proofs.build.Goals as goal
 
 pub returns-in_default : goal.returns-in_default
@@ -25,9 +24,8 @@ build_on-requires c =
 
 pub returns : goal.returns
 returns c =
-    let far = c in
     let a = c.args in
     let words = index a.directory.now a.originals.now a.replicas.now in
-    let made = judged_good _ c.in-Good.ruler (sym far.new.ensures ∙ c.in-Good.is) in
+    let made = judged_good _ c.in-Good.ruler (sym c.new.ensures ∙ c.in-Good.is) in
     c.build_on.ensures
     ∙ ap (λ (n : Numbers). build_of (scale_of n) a.table.now words) made.numbers

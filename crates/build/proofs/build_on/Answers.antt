@@ -4,7 +4,6 @@ use mathlib.Core.Bool.{true}
 use mathlib.Core.List.{◌++◌}
 use Prim.Native.Nat.{◌+◌, ◌%◌}
 use lib.ListN.{length}
-use borrow.Author.Tests.{not-true, not-false}
 use Rattle.ruler.specs.Ruler.{scale}
 use Rattle.layout.specs.Words.{entry_words, rows, half_length}
 use Rattle.layout.specs.Refusals.{is_accepted}
@@ -14,7 +13,6 @@ use Rattle.store.proofs.Halves.{two_halves, second_long, first_next, second_firs
 use Rattle.build.specs.RowsJudged.{lengths}
 use Rattle.build.proofs.Outcomes.{left_old, left_new, accepted-table, first_half_lem, second_half_lem, rows-room}
 use native.Mathlib.Omega.{arith}
-use borrow.Author.Rules.{rules}
 use Rattle.build.proofs.build_on.Goals as goal
 
 pub returns-then-not-is_accepted : goal.returns-then-not-is_accepted
@@ -24,8 +22,8 @@ returns-then-not-is_accepted c =
     c.judged-outcome.ensures (sym c.is_accepted.ensures ∙ c.if-not-is_accepted.true)
 
 pub half_length-half-requires : goal.half_length-half-requires
-half_length-half-requires c = let g = c in rw c.bottom.ensures
-    (deep-ruler g.args.ruler g.requires)
+half_length-half-requires c = rw c.bottom.ensures
+    (deep-ruler c.args.ruler c.requires)
 
 pub offset_bounds-directory-half : goal.offset_bounds-directory-half
 offset_bounds-directory-half c =
@@ -69,15 +67,13 @@ fill_replicas-requires c =
     c.judged-outcome.ensures fine in
     let half : c.half_length-half.result ≡ half_length (scale c.args.ruler).m = c.half_length-half.ensures ∙ ap half_length c.bottom.ensures in
     let both : length c.args.directory.now ≡ c.half_length-half.result + c.half_length-half.result = two_halves _ a-table.0.directory half in
-    let cut = c in
-    let g = c in
-    let a = g.args in
+    let a = c.args in
     let d = a.directory.now in
     let table = a-table in
-    let long = second_long d cut.half_length-half.result (length d) both refl in
+    let long = second_long d c.half_length-half.result (length d) both refl in
     record {
-      fillable = second_half_lem a.ruler a.table.now d a.originals.now a.replicas.now g.requires table.0 _ (long ∙ half);
-      table_in_bounds = (rows-room a.ruler a.table.now d a.originals.now a.replicas.now g.requires table.0 table.1, table.1);
+      fillable = second_half_lem a.ruler a.table.now d a.originals.now a.replicas.now c.requires table.0 _ (long ∙ half);
+      table_in_bounds = (rows-room a.ruler a.table.now d a.originals.now a.replicas.now c.requires table.0 table.1, table.1);
     }
 
 pub slice_bounds-fill-end : goal.slice_bounds-fill-end
@@ -101,16 +97,12 @@ fill-requires c =
     let half : c.half_length-half.result ≡ half_length (scale c.args.ruler).m = c.half_length-half.ensures ∙ ap half_length c.bottom.ensures in
     let both : length c.args.directory.now ≡ c.half_length-half.result + c.half_length-half.result = two_halves _ a-table.0.directory half in
     let second-size : length c.fill_replicas.new.dir ≡ c.half_length-half.result =
-    let cut = c in
     let d = c.args.directory.now in
-    c.fill_replicas.auto.dir ∙ second_long d cut.half_length-half.result (length d) both refl in
-    let two = c in
-    let cut = c in
-    let g = c in
-    let a = g.args in
+    c.fill_replicas.auto.dir ∙ second_long d c.half_length-half.result (length d) both refl in
+    let a = c.args in
     let d = a.directory.now in
-    let long = first_next d cut.half_length-half.result (length d) both refl c.fill_replicas.new.dir second-size in
-    first_half_lem a.ruler a.table.now d a.originals.now a.replicas.now g.requires a-table.0 _ _ (long ∙ half)
+    let long = first_next d c.half_length-half.result (length d) both refl c.fill_replicas.new.dir second-size in
+    first_half_lem a.ruler a.table.now d a.originals.now a.replicas.now c.requires a-table.0 _ _ (long ∙ half)
     c.fill_replicas.auto.spare
 
 pub returns : goal.returns
@@ -123,19 +115,14 @@ returns c =
     let half : c.half_length-half.result ≡ half_length (scale c.args.ruler).m = c.half_length-half.ensures ∙ ap half_length c.bottom.ensures in
     let both : length c.args.directory.now ≡ c.half_length-half.result + c.half_length-half.result = two_halves _ a-table.0.directory half in
     let second-size : length c.fill_replicas.new.dir ≡ c.half_length-half.result =
-    let cut = c in
     let d = c.args.directory.now in
-    c.fill_replicas.auto.dir ∙ second_long d cut.half_length-half.result (length d) both refl in
-    let at = c in
-    let two_at = c in
-    let cut = c in
-    let taken = cut in
+    c.fill_replicas.auto.dir ∙ second_long d c.half_length-half.result (length d) both refl in
     let a = c.args in
     let d = a.directory.now in
-    let one = at.fill in
-    let two = two_at.fill_replicas in
-    let halves = second_first d cut.half_length-half.result (length d) both refl two.new.dir second-size one.new.dir
+    let one = c.fill in
+    let two = c.fill_replicas in
+    let halves = second_first d c.half_length-half.result (length d) both refl two.new.dir second-size one.new.dir
     ∙ ap₂ ◌++◌ one.ensures.directory-is two.ensures.directory-is in
-    left_new (scale a.ruler) a.table.now d a.originals.now a.replicas.now taken.judged-outcome.result
-    taken.judged-outcome.ensures fine _ one.new.arena two.new.arena halves
+    left_new (scale a.ruler) a.table.now d a.originals.now a.replicas.now c.judged-outcome.result
+    c.judged-outcome.ensures fine _ one.new.arena two.new.arena halves
     (rw two.auto.spare at one.ensures.words_are) two.ensures.words_are

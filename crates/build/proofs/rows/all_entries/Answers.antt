@@ -1,11 +1,7 @@
 -- The sum so far, with that of the rows left, is that of all.
 use mathlib.Core.Path.{◌≡◌, sym, ap, subst, ◌∙◌}
-use Prim.Native.Nat.{◌+◌, ◌-◌, ◌*◌, ◌/◌, ◌≤◌}
-use lib.ListN.{length, drop}
-use Rattle.lists.specs.Lists.{sum_over}
-use Rattle.ruler.specs.Ruler.{deepest, scale}
-use Rattle.layout.specs.Stored.{most_partitions}
-use Rattle.layout.specs.Words.{entry_words, trip_at, rows, partitions_holding}
+use Rattle.ruler.specs.Ruler.{scale}
+use Rattle.layout.specs.Words.{trip_at, partitions_holding}
 use Rattle.layout.specs.Refusals.{Fits}
 use Rattle.layout.proofs.MostPartitions.{deepest_most}
 use Rattle.layout.proofs.Rows.{length-rows}
@@ -20,44 +16,40 @@ loop-i-init c = (omega arith, omega arith, omega arith)
 
 pub partitions_holding-requires : goal.partitions_holding-requires
 partitions_holding-requires c =
-    let g = c in
     record {
-      made = g.requires.good;
-      fits = subst (Fits (scale g.args.ruler)) (sym c.trip_at-t.ensures)
-          (tested-fits g.args.ruler g.args.table.now g.requires c.loop-i.i (omega arith));
+      made = c.requires.good;
+      fits = subst (Fits (scale c.args.ruler)) (sym c.trip_at-t.ensures)
+          (tested-fits c.args.ruler c.args.table.now c.requires c.loop-i.i (omega arith));
     }
 
 pub overflow_add-sum : goal.overflow_add-sum
 overflow_add-sum c =
-    let g = c in
     omega (
       arith,
       c.partitions_holding.ensures,
-      deepest_most (scale g.args.ruler) c.trip_at-t.result
-          (deep-ruler g.args.ruler g.requires.good),
-      g.requires.few,
-      length-rows g.args.table.now,
+      deepest_most (scale c.args.ruler) c.trip_at-t.result
+          (deep-ruler c.args.ruler c.requires.good),
+      c.requires.few,
+      length-rows c.args.table.now,
     )
 
 pub loop-i-preserved : goal.loop-i-preserved
 loop-i-preserved c =
-    let g = c in
     let k = c.loop-i in
-    let f = partitions_holding (scale g.args.ruler) in
-    let one : c.partitions_holding.result ≡ f (trip_at g.args.table.now k.i) =
+    let f = partitions_holding (scale c.args.ruler) in
+    let one : c.partitions_holding.result ≡ f (trip_at c.args.table.now k.i) =
     c.partitions_holding.ensures ∙ ap f c.trip_at-t.ensures in (
       omega arith,
       omega (
         arith,
         c.partitions_holding.ensures,
-        deepest_most (scale g.args.ruler) c.trip_at-t.result
-            (deep-ruler g.args.ruler g.requires.good),
+        deepest_most (scale c.args.ruler) c.trip_at-t.result
+            (deep-ruler c.args.ruler c.requires.good),
       ),
-      rw one (sum_turn f g.args.table.now k.i k.sum (omega arith)) ∙ k.invariant.2,
+      rw one (sum_turn f c.args.table.now k.i k.sum (omega arith)) ∙ k.invariant.2,
     )
 
 pub returns : goal.returns
 returns c =
-    let g = c in
     let k = c.loop-i in
-    omega (arith, k.invariant.2, sum_end (partitions_holding (scale g.args.ruler)) g.args.table.now k.i (omega arith))
+    omega (arith, k.invariant.2, sum_end (partitions_holding (scale c.args.ruler)) c.args.table.now k.i (omega arith))

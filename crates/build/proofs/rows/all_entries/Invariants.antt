@@ -1,18 +1,11 @@
 -- The sum so far, with that of the rows left, is that of all.
-use mathlib.Core.Path.{◌≡◌, sym, ap, subst, ◌∙◌}
+use mathlib.Core.Path.{◌≡◌}
 use Prim.Native.Nat.{◌+◌, ◌-◌, ◌*◌, ◌/◌, ◌≤◌}
 use lib.ListN.{length, drop}
 use Rattle.lists.specs.Lists.{sum_over}
 use Rattle.ruler.specs.Ruler.{deepest, scale}
 use Rattle.layout.specs.Stored.{most_partitions}
-use Rattle.layout.specs.Words.{entry_words, trip_at, rows, partitions_holding}
-use Rattle.layout.specs.Refusals.{Fits}
-use Rattle.layout.proofs.MostPartitions.{deepest_most}
-use Rattle.layout.proofs.Rows.{length-rows}
-use Rattle.layout.proofs.RulerCells.{deep-ruler}
-use Rattle.build.proofs.RowTurns.{tested-fits}
-use Rattle.build.proofs.RowsJudged.{sum_turn, sum_end}
-use native.Mathlib.Omega.{arith}
+use Rattle.layout.specs.Words.{entry_words, rows, partitions_holding}
 use Rattle.build.proofs.rows.all_entries.Given as goal
 
 abbrev pub invariant-loop-i : goal.invariant-loop-i

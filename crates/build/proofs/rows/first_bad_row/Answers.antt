@@ -1,13 +1,11 @@
 -- The rows passed their tests, so those left decide.
-use mathlib.Core.Path.{◌≡◌, refl, sym, ap, ◌∙◌}
-use mathlib.Core.List.{[]}
-use Prim.Native.Nat.{◌+◌, ◌-◌, ◌/◌, ◌≤◌}
-use lib.ListN.{length, drop}
-use borrow.Author.Tests.{not-true, not-false}
+use mathlib.Core.Path.{refl, sym, ap, ◌∙◌}
+use Prim.Native.Nat.{◌+◌}
+use lib.ListN.{drop}
 use Rattle.ruler.specs.Ruler.{scale}
 use Rattle.layout.specs.declared.Outcome.{Outcome}
 use Rattle.layout.specs.declared.Outcome.TheVariants.{Accepted}
-use Rattle.layout.specs.Words.{entry_words, rows}
+use Rattle.layout.specs.Words.{rows}
 use Rattle.layout.specs.Refusals.{first_bad_row}
 use Rattle.layout.proofs.Links.{and_then, then_refused, then_accepted}
 use Rattle.build.specs.RowsJudged.{rows_back}
@@ -20,39 +18,35 @@ loop-i-init c = (omega arith, refl)
 
 pub outcome_at-found-requires : goal.outcome_at-found-requires
 outcome_at-found-requires c =
-    let g = c in
     record {
-      made = g.requires.made;
-      i_in_bounds = (omega arith, g.requires.entry_words_len_bound);
-      differ_value = g.requires.differ_value;
+      made = c.requires.made;
+      i_in_bounds = (omega arith, c.requires.entry_words_len_bound);
+      differ_value = c.requires.differ_value;
     }
 
 pub returns-then-not-is_accepted : goal.returns-then-not-is_accepted
 returns-then-not-is_accepted c =
-    let g = c in
     let k = c.loop-i in
-    let s = scale g.args.ruler in
+    let s = scale c.args.ruler in
     let found = c.outcome_at-found.result in
     let bad = sym c.is_accepted.ensures ∙ c.if-not-is_accepted.true in
-    let rest = first_bad_row s (k.i + 1) (rows_back g.args.table.now (k.i + 1)) (drop (k.i + 1) (rows g.args.table.now)) Accepted in
+    let rest = first_bad_row s (k.i + 1) (rows_back c.args.table.now (k.i + 1)) (drop (k.i + 1) (rows c.args.table.now)) Accepted in
     sym (then_refused found rest bad) ∙ ap (λ (o : Outcome). and_then o rest) c.outcome_at-found.ensures
-    ∙ sym (rows_turn s g.args.table.now k.i (omega arith)) ∙ k.invariant.1
+    ∙ sym (rows_turn s c.args.table.now k.i (omega arith)) ∙ k.invariant.1
 
 pub loop-i-preserved : goal.loop-i-preserved
 loop-i-preserved c =
-    let g = c in
     let k = c.loop-i in
-    let s = scale g.args.ruler in
+    let s = scale c.args.ruler in
     let found = c.outcome_at-found.result in
     let fine = sym c.is_accepted.ensures ∙ c.if-not-is_accepted.false in
-    let rest = first_bad_row s (k.i + 1) (rows_back g.args.table.now (k.i + 1)) (drop (k.i + 1) (rows g.args.table.now)) Accepted in (
+    let rest = first_bad_row s (k.i + 1) (rows_back c.args.table.now (k.i + 1)) (drop (k.i + 1) (rows c.args.table.now)) Accepted in (
       omega arith,
       sym (then_accepted found rest fine) ∙ ap (λ (o : Outcome). and_then o rest) c.outcome_at-found.ensures
-          ∙ sym (rows_turn s g.args.table.now k.i (omega arith)) ∙ k.invariant.1,
+          ∙ sym (rows_turn s c.args.table.now k.i (omega arith)) ∙ k.invariant.1,
     )
 
 pub returns : goal.returns
 returns c =
-    let g = c in
     let k = c.loop-i in
-    sym (rows_end (scale g.args.ruler) g.args.table.now k.i (omega arith)) ∙ k.invariant.1
+    sym (rows_end (scale c.args.ruler) c.args.table.now k.i (omega arith)) ∙ k.invariant.1

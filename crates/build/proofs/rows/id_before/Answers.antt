@@ -1,7 +1,7 @@
 -- The rows passed do not have the id, so those left decide.
 use mathlib.Core.Path.{◌≡◌, refl, sym, ap, ◌∙◌}
 use mathlib.Core.Bool.{Bool, ◌||◌}
-use Prim.Native.Nat.{ℕ, ◌-◌, ◌≤◌}
+use Prim.Native.Nat.{ℕ, ◌-◌}
 use borrow.Author.Tests.{eq-eqb, ne_eqb}
 use Rattle.trip.specs.declared.Trip.{Trip}
 use Rattle.layout.specs.Refusals.{has_id}

@@ -1,13 +1,8 @@
 -- The rows passed do not have the id, so those left decide.
-use mathlib.Core.Path.{◌≡◌, refl, sym, ap, ◌∙◌}
-use mathlib.Core.Bool.{Bool, ◌||◌}
-use Prim.Native.Nat.{ℕ, ◌-◌, ◌≤◌}
-use borrow.Author.Tests.{eq-eqb, ne_eqb}
-use Rattle.trip.specs.declared.Trip.{Trip}
+use mathlib.Core.Path.{◌≡◌}
+use Prim.Native.Nat.{◌≤◌}
 use Rattle.layout.specs.Refusals.{has_id}
 use Rattle.build.specs.RowsJudged.{rows_back}
-use Rattle.build.proofs.RowsJudged.{before_turn}
-use native.Mathlib.Omega.{arith}
 use Rattle.build.proofs.rows.id_before.Given as goal
 
 abbrev pub invariant-loop-j : goal.invariant-loop-j

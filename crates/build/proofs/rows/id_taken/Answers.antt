@@ -1,10 +1,8 @@
 -- Where no id stands twice, none is taken.
 use mathlib.Core.Path.{sym, ◌∙◌}
 use Rattle.build.proofs.RowsJudged.{before-none}
-use borrow.Author.Rules.{rules}
 use Rattle.build.proofs.rows.id_taken.Goals as goal
 
 pub returns-then-differ : goal.returns-then-differ
 returns-then-differ c =
-    let g = c in
-    sym (before-none g.args.table.now g.args.i g.args.id g.requires.i_in_bounds g.requires.id_value (sym g.requires.differ_value ∙ c.if-differ.true))
+    sym (before-none c.args.table.now c.args.i c.args.id c.requires.i_in_bounds c.requires.id_value (sym c.requires.differ_value ∙ c.if-differ.true))

@@ -2,16 +2,14 @@
 use mathlib.Core.Path.{ap, ◌∙◌}
 use Rattle.trip.specs.declared.Trip.{Trip}
 use Rattle.layout.specs.Refusals.{row_tests}
-use borrow.Author.Rules.{rules}
 use Rattle.build.proofs.rows.outcome_at.Goals as goal
 
 pub id_taken-taken-requires : goal.id_taken-taken-requires
 id_taken-taken-requires c =
-    let g = c in
     record {
-      i_in_bounds = g.requires.i_in_bounds.0;
+      i_in_bounds = c.requires.i_in_bounds.0;
       id_value = ap (λ (u : Trip). u.id) c.trip_at-t.ensures;
-      differ_value = g.requires.differ_value;
+      differ_value = c.requires.differ_value;
     }
 
 pub returns : goal.returns
