@@ -45,10 +45,7 @@ room_for-room-requires c =
     let trips = c.trips_of-trips.ensures ∙ ap (λ (m : ℕ). get_or g.directory.now (2 * partitions m) 0) c.bottom.ensures
     ∙ trips_word g.ruler s.requires.made x s.requires.replicas_value g.question s.requires.on_ruler in
     let few = listing_few g.ruler s.requires.made x s.requires.replicas_value g.question s.requires.on_ruler in
-    let most = trips_few g.ruler s.requires.made x s.requires.replicas_value g.question s.requires.on_ruler in (
-      same-there g.ruler s.requires.made x s.requires.replicas_value g.question s.requires.on_ruler c.plan_for-plan.ensures,
-      (omega (arith, ap length same), omega arith),
-    )
+    let most = trips_few g.ruler s.requires.made x s.requires.replicas_value g.question s.requires.on_ruler in record { levels_there = same-there g.ruler s.requires.made x s.requires.replicas_value g.question s.requires.on_ruler c.plan_for-plan.ensures; plan_len_bound = (omega (arith, ap length same), omega arith) }
 
 pub returns-in-Refused : goal.returns-in-Refused
 unfolding listed_of
@@ -73,11 +70,8 @@ list_levels-count-requires c =
     c.sought_by-sought.ensures
     c.plan_for-plan.ensures in
     let told = c.in_default.is in
-    let room = c.room_for-room.ensures in (
-      same-there g.ruler s.requires.made x s.requires.replicas_value g.question s.requires.on_ruler
-          c.plan_for-plan.ensures,
-      of_room _ _ (sym room ∙ told),
-    )
+    let room = c.room_for-room.ensures in record { levels_there = same-there g.ruler s.requires.made x s.requires.replicas_value g.question s.requires.on_ruler
+          c.plan_for-plan.ensures; plan_in_bounds = of_room _ _ (sym room ∙ told) }
 
 pub slice_bounds-sort_ids-end : goal.slice_bounds-sort_ids-end
 slice_bounds-sort_ids-end c =

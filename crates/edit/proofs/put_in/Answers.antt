@@ -29,7 +29,7 @@ add_half-requires c =
     let s = c in
     let x = index s.args.directory.now s.args.originals.now s.args.replicas.now in
     let e = adding s.args.ruler s.requires.made x s.args.t s.requires.t_value in
-    (s.requires.made, (x, first_lent _ _ _ e half))
+    record { made = s.requires.made; adding = (x, first_lent _ _ _ e half) }
 
 pub offset_bounds-directory-middle : goal.offset_bounds-directory-middle
 offset_bounds-directory-middle c =
@@ -63,10 +63,7 @@ add_half-requires-2 c =
     let half : c.half_length-middle.result ≡ half_length (scale c.args.ruler).m = c.half_length-middle.ensures ∙ ap half_length c.bottom.ensures in
     let s = c in
     let x = index s.args.directory.now s.args.originals.now s.args.replicas.now in
-    let e = adding s.args.ruler s.requires.made x s.args.t s.requires.t_value in (
-      s.requires.made,
-      (x, second_lent _ _ _ e half (c.add_half.ensures x)),
-    )
+    let e = adding s.args.ruler s.requires.made x s.args.t s.requires.t_value in record { made = s.requires.made; adding = (x, second_lent _ _ _ e half (c.add_half.ensures x)) }
 
 pub returns : goal.returns
 returns c =

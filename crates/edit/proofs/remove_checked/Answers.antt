@@ -31,7 +31,7 @@ overflow_mul-used c =
     let counted : c.trips_of-trips.result ≡ length (table_of (scale c.args.ruler) words) = 
         let g = c in
         c.trips_of-trips.ensures ∙ ap (λ (m : ℕ). get_or g.args.directory.now (2 * partitions m) 0) c.bottom.ensures
-        ∙ (in-index g).trips in
+        ∙ in-index.trips in
     omega (arith, in-index, counted)
 
 pub slice_bounds-find_id-end : goal.slice_bounds-find_id-end
@@ -41,7 +41,7 @@ slice_bounds-find_id-end c =
     let counted : c.trips_of-trips.result ≡ length (table_of (scale c.args.ruler) words) = 
         let g = c in
         c.trips_of-trips.ensures ∙ ap (λ (m : ℕ). get_or g.args.directory.now (2 * partitions m) 0) c.bottom.ensures
-        ∙ (in-index g).trips in
+        ∙ in-index.trips in
     omega (arith, in-index, counted)
 
 pub returns-then-trips-place : goal.returns-then-trips-place
@@ -65,13 +65,9 @@ pub trip_at-t-requires : goal.trip_at-t-requires
 trip_at-t-requires c =
     let words : Index = index c.args.directory.now c.args.originals.now c.args.replicas.now in
     let in-index : Shown (scale c.args.ruler) words = shown _ _ (checked _ _ c.requires.replicas_value) (deep-ruler c.args.ruler c.requires.made) in
-    omega (
-  arith,
-  in-index,
-  counted
-      c,
-  c.if-trips-place.false,
-)
+    let counted : c.trips_of-trips.result ≡ length (table_of (scale c.args.ruler) words) =
+        c.trips_of-trips.ensures ∙ ap (λ (m : ℕ). get_or c.args.directory.now (2 * partitions m) 0) c.bottom.ensures ∙ in-index.trips in
+    omega (arith, in-index, counted, c.if-trips-place.false)
 
 pub take_out-requires : goal.take_out-requires
 take_out-requires c =
@@ -94,7 +90,7 @@ take_out-requires c =
       c.if-trips-place.false,
     ))
     c.trip_at-t.ensures in
-    (g.requires.made, (rw f.same f.accepted, f.member))
+    record { made = g.requires.made; id_value = rw f.same f.accepted; fact = f.member }
 
 pub returns : goal.returns
 returns c =

@@ -42,8 +42,8 @@ loop-j-preserved c =
       omega arith,
       omega (arith, c.add_to_slot.auto),
       omega (arith, c.add_to_slot.auto),
-      λ s x a e. grown_turn s g.half x g.t g.dir.now g.arena.now a g.spots.now e l.dir l.arena l.j l.inv.2
-          (l.inv.3 s x a e) (omega arith) _ _ c.add_to_slot.ensures,
+      λ s x a e. grown_turn s g.half x g.t g.dir.now g.arena.now a g.spots.now e l.dir l.arena l.j l.invariant.2
+          (l.invariant.3 s x a e) (omega arith) _ _ c.add_to_slot.ensures,
     )
 
 pub shape_of-dir : goal.shape_of-dir

@@ -43,7 +43,7 @@ loop-j-preserved c =
       omega (arith, c.remove_from_slot.auto),
       omega (arith, c.remove_from_slot.auto),
       λ s x a e. shrunk_turn s g.half x g.t g.dir.now g.arena.now a g.spots.now e l.dir l.arena l.j
-          (l.inv.3 s x a e) (omega arith) _ _ c.remove_from_slot.ensures,
+          (l.invariant.3 s x a e) (omega arith) _ _ c.remove_from_slot.ensures,
     )
 
 pub shape_of-dir : goal.shape_of-dir

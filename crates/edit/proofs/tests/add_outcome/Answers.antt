@@ -64,7 +64,7 @@ slice_bounds-trip_outcome-end c =
     let trips : List Trip = table_of (scale c.args.ruler) words in
     let counted : (c.trips_of-trips.result ≡ length trips) × (c.entries_of-copies.result ≡ length (entries (scale c.args.ruler) Replicas trips)) = 
         let g = c in
-        let w = in-index g in (
+        let w = in-index in (
           c.trips_of-trips.ensures ∙ ap (λ (m : ℕ). get_or g.args.directory.now (2 * partitions m) 0) c.bottom.ensures
               ∙ w.trips,
           c.entries_of-copies.ensures ∙ w.copies,
@@ -117,7 +117,7 @@ lacks_room-requires c =
         c.trip_outcome-row.ensures ∙ ap (λ (l : List Trip). row_tests (scale g.args.ruler) l g.args.t 0 Accepted) read in
     let row_ok : RowOk (scale c.args.ruler) trips c.args.t = row_taken _ _ _ _ row_is (sym c.is_accepted.ensures ∙ c.if-not-is_accepted.false) in
     let g = c in
-    (g.requires.made, (row_ok.ranges, omega (arith, in-index, counted.0)))
+    record { made = g.requires.made; fits = (row_ok.fits, omega (arith, in-index, counted.0)) }
 
 pub returns-then-lacks_room : goal.returns-then-lacks_room
 unfolding refuse
@@ -168,7 +168,7 @@ lacks_room-requires-2 c =
         c.trip_outcome-row.ensures ∙ ap (λ (l : List Trip). row_tests (scale g.args.ruler) l g.args.t 0 Accepted) read in
     let row_ok : RowOk (scale c.args.ruler) trips c.args.t = row_taken _ _ _ _ row_is (sym c.is_accepted.ensures ∙ c.if-not-is_accepted.false) in
     let g = c in
-    (g.requires.made, (row_ok.fits, omega (arith, in-index, counted.1)))
+    record { made = g.requires.made; fits = (row_ok.fits, omega (arith, in-index, counted.1)) }
 
 pub returns-then-lacks_room-2 : goal.returns-then-lacks_room-2
 unfolding refuse
