@@ -1,6 +1,7 @@
 // Days (T-07). Three trips have the same times, [1,2] under w = 2 and m = 2, with an original and a replica each: trip 5 runs on day 0, trip 4 on day 1
 // and trip 7 on day 31. What a check says of days is among the cases of damage.
 use crate::say;
+use std::io;
 use trip::{Asking, Trip};
 
 const TABLE: [u32; 12] = [5, 1, 2, 1, 4, 1, 2, 2, 7, 1, 2, 2147483648];
@@ -31,26 +32,30 @@ fn gets<'a>(
     say::is(outcome, number, detail) & (answered.count == 0)
 }
 
-fn questions<'a>(d: &[u32], o: &'a [u32], r: &'a [u32]) {
+fn questions<'a>(rt: &impl Print, d: &[u32], o: &'a [u32], r: &'a [u32]) -> io::Result<()> {
     let first = lists(d, o, r, 0, 1, &[5, 9]);
     let second = lists(d, o, r, 1, 1, &[4, 9]);
     let last = lists(d, o, r, 31, 1, &[7, 9]);
     let none = lists(d, o, r, 2, 0, &[9, 9]);
-    say::case(first & second & last & none, b"days: each trip on its own");
+    say::case(
+        rt,
+        first & second & last & none,
+        b"days: each trip on its own",
+    )?;
     let one = gets(d, o, r, Asking::of(13, 0, 3, 31), 7, 1);
     let none = gets(d, o, r, Asking::of(13, 0, 3, 30), 0, 0);
-    say::case(one & none, b"days: 7 counts the trips of the day");
+    say::case(rt, one & none, b"days: 7 counts the trips of the day")
 }
 
 // The list has no word, so that 7 would come where 17 didn't.
-fn no_such_day<'a>(d: &[u32], o: &'a [u32], r: &'a [u32]) {
+fn no_such_day<'a>(rt: &impl Print, d: &[u32], o: &'a [u32], r: &'a [u32]) -> io::Result<()> {
     let next = gets(d, o, r, Asking::of(13, 0, 3, 32), 17, 0);
     let most = gets(d, o, r, Asking::of(13, 0, 3, 4294967295), 17, 0);
-    say::case(next & most, b"days: day 32 gives 17");
+    say::case(rt, next & most, b"days: day 32 gives 17")?;
     let code = gets(d, o, r, Asking::of(14, 0, 3, 32), 9, 0);
     let off = gets(d, o, r, Asking::of(13, 0, 4, 32), 4, 0);
     let backward = gets(d, o, r, Asking::of(13, 3, 0, 32), 5, 0);
-    say::case(code & off & backward, b"days: 9, 4 and 5 before 17");
+    say::case(rt, code & off & backward, b"days: 9, 4 and 5 before 17")
 }
 
 // Whether a build is refused and writes nothing. There is no replica's room: 7 would come where another number didn't.
@@ -61,15 +66,15 @@ fn unbuilt(table: &[u32], number: u32, detail: u32) -> bool {
     say::is(outcome, number, detail) & say::same(&d, &[7; 30]) & say::same(&o, &[7; 8])
 }
 
-fn no_days() {
+fn no_days(rt: &impl Print) -> io::Result<()> {
     let one = unbuilt(&[5, 1, 2, 1, 4, 1, 2, 0], 16, 1);
     let earlier = unbuilt(&[5, 1, 2, 0, 4, 1, 9, 1], 16, 0);
-    say::case(one & earlier, b"days: a row of no day gives 16");
+    say::case(rt, one & earlier, b"days: a row of no day gives 16")?;
     let taken = unbuilt(&[5, 1, 2, 1, 5, 1, 2, 0], 6, 1);
     let backward = unbuilt(&[5, 2, 1, 0], 5, 0);
     let off = unbuilt(&[5, 1, 4, 0], 4, 0);
-    say::case(taken & backward & off, b"days: 4, 5 and 6 before 16");
-    say::case(unbuilt(&[5, 1, 2], 2, 0), b"days: a row of three words");
+    say::case(rt, taken & backward & off, b"days: 4, 5 and 6 before 16")?;
+    say::case(rt, unbuilt(&[5, 1, 2], 2, 0), b"days: a row of three words")
 }
 
 // Whether the words are those of a build of the table.
@@ -104,7 +109,7 @@ fn comes(d: &mut [u32], o: &mut [u32], r: &mut [u32]) -> bool {
     say::is(added, 0, 0) & built(&TABLE, d, o, r)
 }
 
-fn edits() {
+fn edits(rt: &impl Print) -> io::Result<()> {
     let mut d = [7u32; 30];
     let mut o = [7u32; 12];
     let mut r = [7u32; 12];
@@ -112,24 +117,24 @@ fn edits() {
     let full = stays(&mut d, &mut o, &mut r, 8, 1, 7);
     let idle = stays(&mut d, &mut o, &mut r, 8, 0, 16);
     let taken = stays(&mut d, &mut o, &mut r, 5, 0, 6);
-    say::case(full & idle & taken, b"days: an addition gets 6, 16, 7");
+    say::case(rt, full & idle & taken, b"days: an addition gets 6, 16, 7")?;
     let without = goes(&mut d, &mut o, &mut r);
-    say::case(without, b"days: a removal keeps the others'");
+    say::case(rt, without, b"days: a removal keeps the others'")?;
     let with = comes(&mut d, &mut o, &mut r);
-    say::case(with, b"days: an addition brings its own");
+    say::case(rt, with, b"days: an addition brings its own")
 }
 
-fn asked() {
+fn asked(rt: &impl Print) -> io::Result<()> {
     let mut d = [7u32; 30];
     let mut o = [7u32; 12];
     let mut r = [7u32; 12];
     build::build(say::ruler(2, 2), &TABLE, &mut d, &mut o, &mut r);
-    questions(&d, &o, &r);
-    no_such_day(&d, &o, &r);
+    questions(rt, &d, &o, &r)?;
+    no_such_day(rt, &d, &o, &r)
 }
 
-pub fn all() {
-    asked();
-    no_days();
-    edits();
+pub fn all(rt: &impl Print) -> io::Result<()> {
+    asked(rt)?;
+    no_days(rt)?;
+    edits(rt)
 }

@@ -2,6 +2,7 @@
 // cases are run with every bit set and day 0" (T-07).
 use crate::say;
 use crate::say::EVERY_DAY;
+use std::io;
 use trip::Asking;
 
 // Two questions to the four trips, in a list of four words. The list has the id first, and after it the words that it had.
@@ -22,9 +23,13 @@ fn lists_one<'a>(
 }
 
 // "CONTAINED_BY [1,62]: 9. FINISHES [30,38]: 7."
-fn questions<'a>(d: &[u32], o: &'a [u32], r: &'a [u32]) {
-    say::case(lists_one(d, o, r, 10, 1, 62, 9), b"CONTAINED_BY [1,62]: 9");
-    say::case(lists_one(d, o, r, 3, 30, 38, 7), b"FINISHES [30,38]: 7");
+fn questions<'a>(rt: &impl Print, d: &[u32], o: &'a [u32], r: &'a [u32]) -> io::Result<()> {
+    say::case(
+        rt,
+        lists_one(d, o, r, 10, 1, 62, 9),
+        b"CONTAINED_BY [1,62]: 9",
+    )?;
+    say::case(rt, lists_one(d, o, r, 3, 30, 38, 7), b"FINISHES [30,38]: 7")
 }
 
 // The rows of the levels that the ruler has not.
@@ -35,20 +40,21 @@ fn no_more_rows(rows: [[u32; 4]; 11]) -> bool {
 }
 
 // "Census: level 0 is 1,0,0,0; level 3 is 0,0,1,1; level 4 is 1,2,1,0; others zero."
-fn census(d: &[u32], o: &[u32], r: &[u32]) {
+fn census(rt: &impl Print, d: &[u32], o: &[u32], r: &[u32]) -> io::Result<()> {
     let outcome = view::census_outcome(say::ruler(6, 4), d, o, r);
     let rows = view::census(say::ruler(6, 4), d, o, r);
     let top = say::same(&rows[0], &[1, 0, 0, 0]) & say::same(&rows[1], &[0; 4]);
     let middle = say::same(&rows[2], &[0; 4]) & say::same(&rows[3], &[0, 0, 1, 1]);
     let bottom = say::same(&rows[4], &[1, 2, 1, 0]) & say::same(&rows[5], &[0; 4]);
     say::case(
+        rt,
         say::is(outcome, 0, 0) & top & middle & bottom & no_more_rows(rows),
         b"census of the four trips",
-    );
+    )
 }
 
 // "Ruler w = 6, m = 4; trips 7 [21,38], 3 [20,20], 9 [0,63], 4 [39,40]."
-fn four_trips() {
+fn four_trips(rt: &impl Print) -> io::Result<()> {
     let mut directory = [7u32; 126];
     let mut originals = [7u32; 16];
     let mut replicas = [7u32; 16];
@@ -61,12 +67,12 @@ fn four_trips() {
         &mut originals,
         &mut replicas,
     );
-    questions(&directory, &originals, &replicas);
-    census(&directory, &originals, &replicas);
+    questions(rt, &directory, &originals, &replicas)?;
+    census(rt, &directory, &originals, &replicas)
 }
 
 // "w = 1, m = 1, trip 5 [0,0]: originals half 0,0,0,1,1,1,1; replicas half all 0."
-fn one_second() {
+fn one_second(rt: &impl Print) -> io::Result<()> {
     let right = say::gives(
         say::ruler(1, 1),
         &[5, 0, 0, EVERY_DAY],
@@ -77,11 +83,11 @@ fn one_second() {
         &mut [7; 5],
         &mut [7; 2],
     );
-    say::case(right, b"w 1 m 1, trip 5 [0,0]");
+    say::case(rt, right, b"w 1 m 1, trip 5 [0,0]")
 }
 
 // "w = 1, m = 0, trip 5 [0,1]: directory 0,1,1,0,0,0."
-fn one_level() {
+fn one_level(rt: &impl Print) -> io::Result<()> {
     let right = say::gives(
         say::ruler(1, 0),
         &[5, 0, 1, EVERY_DAY],
@@ -92,11 +98,11 @@ fn one_level() {
         &mut [7; 4],
         &mut [7; 3],
     );
-    say::case(right, b"w 1 m 0, trip 5 [0,1]");
+    say::case(rt, right, b"w 1 m 0, trip 5 [0,1]")
 }
 
 // "Empty table: all words 0, accepted even with empty arenas."
-fn empty_table() {
+fn empty_table(rt: &impl Print) -> io::Result<()> {
     let none: [u32; 0] = [];
     let right = say::gives(
         say::ruler(6, 4),
@@ -108,12 +114,12 @@ fn empty_table() {
         &mut [],
         &mut [],
     );
-    say::case(right, b"an empty table");
+    say::case(rt, right, b"an empty table")
 }
 
-pub fn all() {
-    four_trips();
-    one_second();
-    one_level();
-    empty_table();
+pub fn all(rt: &impl Print) -> io::Result<()> {
+    four_trips(rt)?;
+    one_second(rt)?;
+    one_level(rt)?;
+    empty_table(rt)
 }

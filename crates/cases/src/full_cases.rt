@@ -4,6 +4,7 @@ ghost use Rattle.std.specs.Prelude.{◌+◌, ◌*◌, ◌≤◌, length};
 use crate::say;
 use crate::say::EVERY_DAY;
 use layout::ENTRY_WORDS;
+use std::io;
 use trip::Trip;
 
 // Rows 0, 1, .. of trips with the same times.
@@ -26,7 +27,7 @@ fn put_row(table: &mut [u32], row: usize, id: u32, start: u32, end: u32)
 }
 
 // 4,096 rows with 18 partitions each: 17 replicas beside the original.
-fn most_partitions() {
+fn most_partitions(rt: &impl Print) -> io::Result<()> {
     let mut table = [0u32; ENTRY_WORDS * 4096];
     fill_rows(&mut table, 256, 261632);
     let mut directory = [7u32; 8190];
@@ -41,9 +42,10 @@ fn most_partitions() {
     );
     let checked = verify::check(say::ruler(18, 10), &directory, &originals, &replicas);
     say::case(
+        rt,
         say::is(outcome, 0, 0) & say::is(checked, 0, 0),
         b"4096 trips of 18 partitions",
-    );
+    )
 }
 
 // Whether the originals of trips that all lie in the first second are their table, with a row's room to spare.
@@ -72,15 +74,20 @@ fn out_and_in(table: &[u32], directory: &mut [u32], originals: &mut [u32]) -> bo
     say::is(out, 0, 0) & say::is(again, 0, 0) & is_table(table, originals)
 }
 
-fn edits(table: &[u32], directory: &mut [u32], originals: &mut [u32]) {
+fn edits(
+    rt: &impl Print,
+    table: &[u32],
+    directory: &mut [u32],
+    originals: &mut [u32],
+) -> io::Result<()> {
     let more = one_too_many(table, directory, originals);
-    say::case(more, b"one more than 4096 trips gives 2");
+    say::case(rt, more, b"one more than 4096 trips gives 2")?;
     let same = out_and_in(table, directory, originals);
-    say::case(same, b"one of 4096 trips out and in again");
+    say::case(rt, same, b"one of 4096 trips out and in again")
 }
 
 // 4,096 rows in one slot: the originals are the table again.
-fn one_slot() {
+fn one_slot(rt: &impl Print) -> io::Result<()> {
     let mut table = [0u32; ENTRY_WORDS * 4096];
     fill_rows(&mut table, 0, 0);
     let mut directory = [7u32; 14];
@@ -93,11 +100,11 @@ fn one_slot() {
         &mut [],
     );
     let right = say::is(built, 0, 0) & is_table(&table, &originals);
-    say::case(right, b"4096 trips in one slot");
-    edits(&table, &mut directory, &mut originals);
+    say::case(rt, right, b"4096 trips in one slot")?;
+    edits(rt, &table, &mut directory, &mut originals)
 }
 
-pub fn all() {
-    most_partitions();
-    one_slot();
+pub fn all(rt: &impl Print) -> io::Result<()> {
+    most_partitions(rt)?;
+    one_slot(rt)
 }

@@ -9,10 +9,12 @@ mod full_cases;
 mod say;
 mod spread_cases;
 
-fn main() {
-    example_cases::all();
-    damage_cases::all();
-    day_cases::all();
-    spread_cases::all();
-    full_cases::all();
+use std::io;
+
+fn main(rt: HostRuntime) -> io::Result<()> {
+    example_cases::all(&rt)?;
+    damage_cases::all(&rt)?;
+    day_cases::all(&rt)?;
+    spread_cases::all(&rt)?;
+    full_cases::all(&rt)
 }

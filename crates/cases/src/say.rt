@@ -1,20 +1,20 @@
 // What a case writes, comparing what it got, and trips and windows by their numbers.
 use layout::Outcome;
-use libc::STDOUT_FILENO;
 use ruler::Numbers;
+use std::io;
 
 // The days of a trip that runs on all of them.
 pub const EVERY_DAY: u32 = 4294967295;
 
 // One case: whether it is right, and its name.
-pub fn case(right: bool, name: &[u8]) {
+pub fn case(rt: &impl Print, right: bool, name: &[u8]) -> io::Result<()> {
     if right {
-        io::write_all(STDOUT_FILENO, b"ok ");
+        rt.write_all(b"ok ")?;
     } else {
-        io::write_all(STDOUT_FILENO, b"WRONG ");
+        rt.write_all(b"WRONG ")?;
     }
-    io::write_all(STDOUT_FILENO, name);
-    io::write_all(STDOUT_FILENO, b"\n");
+    rt.write_all(name)?;
+    rt.write_all(b"\n")
 }
 
 // Whether an outcome is this number with this detail.

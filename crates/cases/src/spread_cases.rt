@@ -2,6 +2,7 @@
 // cell 0, 43 to 45 cell 1, 46 to 48 cell 2, 49 to 51 cell 3, 52 to 54 cell 4, 55 to 57 cell 5, 58 and 59 cell 6, and 60 alone is cell 7.
 use crate::say;
 use ruler::Numbers;
+use std::io;
 use trip::{Asking, Trip};
 
 // Trips 8 [44,60], 2 [58,59], 6 [40,60] and 3 [60,60]; and the same without trip 8. All trips run on day 0, the bit of value 1.
@@ -30,27 +31,28 @@ fn shows<'a>(
 
 // Trip 8 has cells 1 to 7: cell 1 is level 3 partition 1, O_aft; cells 2 and 3 are level 2 partition 1, R_aft; and cells 4 to 7 are level 1
 // partition 1, R_in. Trip 2 has cell 6 and trip 3 cell 7, each a partition of level 3, and trip 6 has all cells, level 0: O_in all three.
-fn places<'a>(d: &[u32], o: &'a [u32], r: &'a [u32]) {
+fn places<'a>(rt: &impl Print, d: &[u32], o: &'a [u32], r: &'a [u32]) -> io::Result<()> {
     let first = shows(d, o, r, 3, 1, 1, &[8, 44, 60, 1]);
     let between = shows(d, o, r, 2, 1, 3, &[8, 44, 60, 1]);
     let last = shows(d, o, r, 1, 1, 2, &[8, 44, 60, 1]);
-    say::case(first & between & last, b"spread: runs of trip 8");
+    say::case(rt, first & between & last, b"spread: runs of trip 8")?;
     let two = shows(d, o, r, 3, 6, 0, &[2, 58, 59, 1]);
     let six = shows(d, o, r, 0, 0, 0, &[6, 40, 60, 1]);
     let three = shows(d, o, r, 3, 7, 0, &[3, 60, 60, 1]);
-    say::case(two & six & three, b"spread: runs of trips 2, 6 and 3");
+    say::case(rt, two & six & three, b"spread: runs of trips 2, 6 and 3")
 }
 
-fn census(d: &[u32], o: &[u32], r: &[u32]) {
+fn census(rt: &impl Print, d: &[u32], o: &[u32], r: &[u32]) -> io::Result<()> {
     let outcome = view::census_outcome(from_40_to_60(), d, o, r);
     let rows = view::census(from_40_to_60(), d, o, r);
     let top = say::same(&rows[0], &[1, 0, 0, 0]) & say::same(&rows[1], &[0, 0, 1, 0]);
     let bottom = say::same(&rows[2], &[0, 0, 0, 1]) & say::same(&rows[3], &[2, 1, 0, 0]);
     let none = say::same(&rows[4], &[0; 4]) & say::same(&rows[10], &[0; 4]);
     say::case(
+        rt,
         say::is(outcome, 0, 0) & top & bottom & none,
         b"spread: census",
-    );
+    )
 }
 
 // Whether so many trips stand in a relationship to a window, and the list of four words, which were 5, is then this one.
@@ -70,13 +72,20 @@ fn lists<'a>(
 }
 
 // Trip 8 shares cell 1 with [43,43], and [57,57] lies in the cell before that of trip 2: neither is listed. The window [40,60] is the whole ruler.
-fn questions<'a>(ruler: Numbers, d: &[u32], o: &'a [u32], r: &'a [u32], name: &[u8]) {
+fn questions<'a>(
+    rt: &impl Print,
+    ruler: Numbers,
+    d: &[u32],
+    o: &'a [u32],
+    r: &'a [u32],
+    name: &[u8],
+) -> io::Result<()> {
     let cell = lists(ruler, d, o, r, Asking::of(13, 43, 43, 0), 1, &[6, 5, 5, 5]);
     let next = lists(ruler, d, o, r, Asking::of(13, 57, 57, 0), 2, &[6, 8, 5, 5]);
     let all = lists(ruler, d, o, r, Asking::of(13, 40, 60, 0), 4, &[2, 3, 6, 8]);
     let before = lists(ruler, d, o, r, Asking::of(11, 40, 59, 0), 1, &[3, 5, 5, 5]);
     let within = lists(ruler, d, o, r, Asking::of(10, 45, 59, 0), 2, &[6, 8, 5, 5]);
-    say::case(cell & next & all & before & within, name);
+    say::case(rt, cell & next & all & before & within, name)
 }
 
 // Whether a question is refused with this number, and the list stays.
@@ -88,48 +97,76 @@ fn unasked<'a>(d: &[u32], o: &'a [u32], r: &'a [u32], start: u32, end: u32, numb
     say::is(outcome, number, 0) & (answered.count == 0) & say::same(&answers, &[5; 4])
 }
 
-fn windows<'a>(d: &[u32], o: &'a [u32], r: &'a [u32]) {
+fn windows<'a>(rt: &impl Print, d: &[u32], o: &'a [u32], r: &'a [u32]) -> io::Result<()> {
     let early = unasked(d, o, r, 39, 60, 4);
     let late = unasked(d, o, r, 40, 61, 4);
-    say::case(early & late, b"spread: windows [39,60] and [40,61] give 4");
+    say::case(
+        rt,
+        early & late,
+        b"spread: windows [39,60] and [40,61] give 4",
+    )?;
     let both = unasked(d, o, r, 61, 39, 4) & unasked(d, o, r, 60, 40, 5);
-    say::case(both, b"spread: window [61,39] gives 4, [60,40] gives 5");
+    say::case(rt, both, b"spread: window [61,39] gives 4, [60,40] gives 5")
 }
 
 // Whether the check of the words under a ruler answers this number.
-fn checked(ruler: Numbers, d: &[u32], o: &[u32], r: &[u32], number: u32, name: &[u8]) {
+fn checked(
+    rt: &impl Print,
+    ruler: Numbers,
+    d: &[u32],
+    o: &[u32],
+    r: &[u32],
+    number: u32,
+    name: &[u8],
+) -> io::Result<()> {
     let outcome = verify::check(ruler, d, o, r);
-    say::case(say::is(outcome, number, 0), name);
+    say::case(rt, say::is(outcome, number, 0), name)
 }
 
 // The words under other rulers. From 40 to 61 the last second of trip 8 is in cell 6; under w = 6 it begins in cell 5. From 39 to 60 a cell is
 // three seconds, 39 to 41 the first, and the trips have the cells that they had, 60 alone the last.
-fn other_rulers<'a>(d: &[u32], o: &'a [u32], r: &'a [u32]) {
+fn other_rulers<'a>(rt: &impl Print, d: &[u32], o: &'a [u32], r: &'a [u32]) -> io::Result<()> {
     let kind = say::ruler(6, 3);
-    checked(kind, d, o, r, 8, b"spread: words of it under w 6, m 3");
+    checked(rt, kind, d, o, r, 8, b"spread: words of it under w 6, m 3")?;
     let later = say::spread(3, 40, 61);
-    checked(later, d, o, r, 8, b"spread: words of it from 40 to 61");
+    checked(rt, later, d, o, r, 8, b"spread: words of it from 40 to 61")?;
     let sooner = say::spread(3, 40, 59);
-    checked(sooner, d, o, r, 8, b"spread: a ruler that ends too soon");
+    checked(
+        rt,
+        sooner,
+        d,
+        o,
+        r,
+        8,
+        b"spread: a ruler that ends too soon",
+    )?;
     let flatter = say::spread(2, 40, 60);
-    checked(flatter, d, o, r, 3, b"spread: a flatter ruler");
+    checked(rt, flatter, d, o, r, 3, b"spread: a flatter ruler")?;
     let earlier = say::spread(3, 39, 60);
-    checked(earlier, d, o, r, 0, b"spread: words of it from 39 to 60");
-    questions(earlier, d, o, r, b"spread: the same ids from 39 to 60");
+    checked(
+        rt,
+        earlier,
+        d,
+        o,
+        r,
+        0,
+        b"spread: words of it from 39 to 60",
+    )?;
+    questions(rt, earlier, d, o, r, b"spread: the same ids from 39 to 60")
 }
 
 // All that is asked of the index of the four trips.
-fn answers<'a>(d: &[u32], o: &'a [u32], r: &'a [u32]) {
+fn answers<'a>(rt: &impl Print, d: &[u32], o: &'a [u32], r: &'a [u32]) -> io::Result<()> {
     let ruler = from_40_to_60();
-    checked(ruler, d, o, r, 0, b"spread: check");
-    places(d, o, r);
-    census(d, o, r);
-    questions(ruler, d, o, r, b"spread: questions");
-    windows(d, o, r);
-    other_rulers(d, o, r);
+    checked(rt, ruler, d, o, r, 0, b"spread: check")?;
+    places(rt, d, o, r)?;
+    census(rt, d, o, r)?;
+    questions(rt, ruler, d, o, r, b"spread: questions")?;
+    windows(rt, d, o, r)?;
+    other_rulers(rt, d, o, r)
 }
 
-fn four_trips() {
+fn four_trips(rt: &impl Print) -> io::Result<()> {
     let mut directory = [7u32; 62];
     let mut originals = [7u32; 17];
     let mut replicas = [7u32; 9];
@@ -140,42 +177,68 @@ fn four_trips() {
         &mut originals,
         &mut replicas,
     );
-    say::case(say::is(built, 0, 0), b"spread: lo and hi are on the ruler");
-    answers(&directory, &originals, &replicas);
+    say::case(
+        rt,
+        say::is(built, 0, 0),
+        b"spread: lo and hi are on the ruler",
+    )?;
+    answers(rt, &directory, &originals, &replicas)?;
     originals[16] = 1;
     let name = b"spread: a spare word";
-    checked(from_40_to_60(), &directory, &originals, &replicas, 8, name);
+    checked(
+        rt,
+        from_40_to_60(),
+        &directory,
+        &originals,
+        &replicas,
+        8,
+        name,
+    )
 }
 
 // Whether a build is refused and writes nothing.
-fn refused(ruler: Numbers, table: &[u32], number: u32, detail: u32, name: &[u8]) {
+fn refused(
+    rt: &impl Print,
+    ruler: Numbers,
+    table: &[u32],
+    number: u32,
+    detail: u32,
+    name: &[u8],
+) -> io::Result<()> {
     let mut directory = [7u32; 62];
     let mut originals = [7u32; 8];
     let outcome = build::build(ruler, table, &mut directory, &mut originals, &mut []);
     let kept = say::same(&directory, &[7; 62]) & say::same(&originals, &[7; 8]);
-    say::case(say::is(outcome, number, detail) & kept, name);
+    say::case(rt, say::is(outcome, number, detail) & kept, name)
 }
 
-fn bad_rows() {
+fn bad_rows(rt: &impl Print) -> io::Result<()> {
     let ruler = from_40_to_60();
     let early = [6, 40, 60, 1, 1, 39, 60, 1];
-    refused(ruler, &early, 4, 1, b"spread: a start of lo - 1 gives 4");
+    refused(
+        rt,
+        ruler,
+        &early,
+        4,
+        1,
+        b"spread: a start of lo - 1 gives 4",
+    )?;
     let late = [1, 40, 61, 1, 6, 40, 60, 1];
-    refused(ruler, &late, 4, 0, b"spread: an end of hi + 1 gives 4");
-    refused(ruler, &[1, 61, 39, 1], 4, 0, b"spread: [61,39] gives 4");
-    refused(ruler, &[1, 60, 40, 1], 5, 0, b"spread: [60,40] gives 5");
+    refused(rt, ruler, &late, 4, 0, b"spread: an end of hi + 1 gives 4")?;
+    refused(rt, ruler, &[1, 61, 39, 1], 4, 0, b"spread: [61,39] gives 4")?;
+    refused(rt, ruler, &[1, 60, 40, 1], 5, 0, b"spread: [60,40] gives 5")
 }
 
 // Numbers that are no ruler's, and an empty table.
-fn unruled(m: u32, lo: u32, hi: u32, name: &[u8]) {
-    refused(say::spread(m, lo, hi), &[0; 0], 1, 0, name);
+fn unruled(rt: &impl Print, m: u32, lo: u32, hi: u32, name: &[u8]) -> io::Result<()> {
+    refused(rt, say::spread(m, lo, hi), &[0; 0], 1, 0, name)
 }
 
-fn bad_rulers() {
-    unruled(3, 60, 60, b"spread: lo = hi gives 1");
-    unruled(3, 60, 40, b"spread: lo > hi gives 1");
-    unruled(3, 0, 16777216, b"spread: hi = 2^24 gives 1");
-    unruled(11, 40, 60, b"spread: m = 11 gives 1");
+fn bad_rulers(rt: &impl Print) -> io::Result<()> {
+    unruled(rt, 3, 60, 60, b"spread: lo = hi gives 1")?;
+    unruled(rt, 3, 60, 40, b"spread: lo > hi gives 1")?;
+    unruled(rt, 3, 0, 16777216, b"spread: hi = 2^24 gives 1")?;
+    unruled(rt, 11, 40, 60, b"spread: m = 11 gives 1")
 }
 
 // Whether a build of the table gives these words.
@@ -218,7 +281,7 @@ fn goes(d: &mut [u32], o: &mut [u32], r: &mut [u32]) -> bool {
     say::is(removed, 0, 0) & built(&REST, d, o, r)
 }
 
-fn edits() {
+fn edits(rt: &impl Print) -> io::Result<()> {
     let mut directory = [7u32; 62];
     let mut originals = [7u32; 16];
     let mut replicas = [7u32; 8];
@@ -230,13 +293,13 @@ fn edits() {
         &mut replicas,
     );
     let kept = off_the_ruler(&mut directory, &mut originals, &mut replicas);
-    say::case(kept, b"spread: edits with times off the ruler");
+    say::case(rt, kept, b"spread: edits with times off the ruler")?;
     let kept = under_others(&mut directory, &mut originals, &mut replicas);
-    say::case(kept, b"spread: edits under other rulers");
+    say::case(rt, kept, b"spread: edits under other rulers")?;
     let with = comes(&mut directory, &mut originals, &mut replicas);
-    say::case(with, b"spread: an addition is the build with it");
+    say::case(rt, with, b"spread: an addition is the build with it")?;
     let without = goes(&mut directory, &mut originals, &mut replicas);
-    say::case(without, b"spread: a removal is the build without it");
+    say::case(rt, without, b"spread: a removal is the build without it")
 }
 
 // Whether under both kinds trip 9 alone of these words shares a second with [0,2].
@@ -250,28 +313,36 @@ fn listed_under_both<'a>(d: &[u32], o: &'a [u32]) -> bool {
 
 // Under w = 2, m = 2 and from 0 to 3 with m = 2 a second is a cell: a table has the same words under both. Trips 9 [2,3] and 4 [3,3] are
 // level 1 partition 1 and level 2 partition 3.
-fn both_kinds() {
+fn both_kinds(rt: &impl Print) -> io::Result<()> {
     let mut directory = [7u32; 30];
     let mut originals = [7u32; 8];
     let spread = say::spread(2, 0, 3);
     let bits = say::ruler(2, 2);
     let table = [4, 3, 3, 1, 9, 2, 3, 1];
     let built = build::build(spread, &table, &mut directory, &mut originals, &mut []);
-    say::case(say::is(built, 0, 0), b"from 0 to 3");
+    say::case(rt, say::is(built, 0, 0), b"from 0 to 3")?;
     let name = b"its words under w 2, m 2";
-    checked(bits, &directory, &originals, &[], 0, name);
+    checked(rt, bits, &directory, &originals, &[], 0, name)?;
     let same = listed_under_both(&directory, &originals);
-    say::case(same, b"the same id under both");
+    say::case(rt, same, b"the same id under both")
 }
 
 // No trips: an index under every ruler of this m.
-fn no_trips() {
+fn no_trips(rt: &impl Print) -> io::Result<()> {
     let d = [0u32; 30];
     let short = say::spread(2, 0, 1);
-    checked(short, &d, &[0], &[], 0, b"no trips, from 0 to 1");
+    checked(rt, short, &d, &[0], &[], 0, b"no trips, from 0 to 1")?;
     let long = say::spread(2, 9, 16777215);
-    checked(long, &d, &[0], &[], 0, b"no trips, from 9 to 2^24 - 1");
-    checked(say::ruler(24, 2), &d, &[0], &[], 0, b"no trips, under w 24");
+    checked(rt, long, &d, &[0], &[], 0, b"no trips, from 9 to 2^24 - 1")?;
+    checked(
+        rt,
+        say::ruler(24, 2),
+        &d,
+        &[0],
+        &[],
+        0,
+        b"no trips, under w 24",
+    )
 }
 
 // Builds one trip under a ruler with m = 10, and says whether its only entry is the original of a partition, in its "in" slot.
@@ -285,15 +356,15 @@ fn stands_at(ruler: Numbers, trip: &[u32], level: u32, partition: u32) -> bool {
 
 // The widest ruler: (2^24 - 2) x 1023 / (2^24 - 1) is less than 1023 by a part of 1, so the second before the last is in cell 1022, and both in
 // partition 511 of level 9. The product has 34 bits. From 41 to 42 there are 1024 cells for two seconds, the first and the last.
-fn widest_and_narrowest() {
+fn widest_and_narrowest(rt: &impl Print) -> io::Result<()> {
     let widest = say::spread(10, 0, 16777215);
     let end = stands_at(widest, &[5, 16777214, 16777215, 1], 9, 511);
-    say::case(end, b"from 0 to 2^24 - 1");
+    say::case(rt, end, b"from 0 to 2^24 - 1")?;
     let narrowest = say::spread(10, 41, 42);
     let first = stands_at(narrowest, &[5, 41, 41, 1], 10, 0);
     let last = stands_at(narrowest, &[5, 42, 42, 1], 10, 1023);
     let both = stands_at(narrowest, &[5, 41, 42, 1], 0, 0);
-    say::case(first & last & both, b"from 41 to 42");
+    say::case(rt, first & last & both, b"from 41 to 42")
 }
 
 // It runs at 24:30:00, and not at 0:30:00.
@@ -305,7 +376,7 @@ fn runs_by_night<'a>(ruler: Numbers, d: &[u32], o: &'a [u32], r: &'a [u32]) -> b
 }
 
 // A timetable that ends at 28:00:00, and the trip from 23:40:00 to 25:10:00.
-fn past_midnight() {
+fn past_midnight(rt: &impl Print) -> io::Result<()> {
     let mut directory = [7u32; 8190];
     let mut originals = [7u32; 4];
     let mut replicas = [7u32; 68];
@@ -318,16 +389,16 @@ fn past_midnight() {
         &mut replicas,
     );
     let right = runs_by_night(ruler, &directory, &originals, &replicas);
-    say::case(right, b"23:40:00 to 25:10:00 of 28 hours");
+    say::case(rt, right, b"23:40:00 to 25:10:00 of 28 hours")
 }
 
-pub fn all() {
-    four_trips();
-    bad_rows();
-    bad_rulers();
-    edits();
-    both_kinds();
-    no_trips();
-    widest_and_narrowest();
-    past_midnight();
+pub fn all(rt: &impl Print) -> io::Result<()> {
+    four_trips(rt)?;
+    bad_rows(rt)?;
+    bad_rulers(rt)?;
+    edits(rt)?;
+    both_kinds(rt)?;
+    no_trips(rt)?;
+    widest_and_narrowest(rt)?;
+    past_midnight(rt)
 }

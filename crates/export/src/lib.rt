@@ -1,5 +1,5 @@
-// What other languages link: one C function for each public entry, over numbers and slices. Each takes the entry's outcome apart into the
-// numbers of document 01, and does nothing else. A ruler is one value for all of them; two functions make it.
+// What other languages call: one function for each public entry, over numbers and slices. Each takes the entry's outcome apart into the
+// numbers of document 01, and does nothing else. A ruler is one value for all of them; two functions make it. `export_c` hands each of them to C.
 #![tactic(auto)]
 
 ghost use Rattle.std.specs.Prelude.{◌≡◌, length};
@@ -103,8 +103,7 @@ fn in_numbers(outcome: Outcome) -> Said
 }
 
 // The ruler of the times 0 to 2^w - 1.
-#[unsafe(no_mangle)]
-pub extern "C" fn kheyambo_bits(w: u32, m: u32) -> NamedRuler
+pub fn kheyambo_bits(w: u32, m: u32) -> NamedRuler
     ensures { result ≡ bits_named w m }
 {
     NamedRuler {
@@ -116,8 +115,7 @@ pub extern "C" fn kheyambo_bits(w: u32, m: u32) -> NamedRuler
 }
 
 // The ruler that is spread over the times lo to hi.
-#[unsafe(no_mangle)]
-pub extern "C" fn kheyambo_spread(m: u32, lo: u32, hi: u32) -> NamedRuler
+pub fn kheyambo_spread(m: u32, lo: u32, hi: u32) -> NamedRuler
     ensures { result ≡ spread_named m lo hi }
 {
     NamedRuler {
@@ -128,8 +126,7 @@ pub extern "C" fn kheyambo_spread(m: u32, lo: u32, hi: u32) -> NamedRuler
     }
 }
 
-#[unsafe(no_mangle)]
-pub extern "C" fn kheyambo_build(
+pub fn kheyambo_build(
     ruler: NamedRuler,
     table: &[u32],
     directory: &mut [u32],
@@ -142,8 +139,7 @@ pub extern "C" fn kheyambo_build(
     in_numbers(build::build(numbers_named(ruler), table, directory, originals, replicas))
 }
 
-#[unsafe(no_mangle)]
-pub extern "C" fn kheyambo_check(
+pub fn kheyambo_check(
     ruler: NamedRuler,
     directory: &[u32],
     originals: &[u32],
@@ -154,8 +150,7 @@ pub extern "C" fn kheyambo_check(
     in_numbers(verify::check(numbers_named(ruler), directory, originals, replicas))
 }
 
-#[unsafe(no_mangle)]
-pub extern "C" fn kheyambo_add(
+pub fn kheyambo_add(
     ruler: NamedRuler,
     id: u32,
     start: u32,
@@ -172,8 +167,7 @@ pub extern "C" fn kheyambo_add(
     in_numbers(edit::add(numbers_named(ruler), directory, originals, replicas, t))
 }
 
-#[unsafe(no_mangle)]
-pub extern "C" fn kheyambo_remove(
+pub fn kheyambo_remove(
     ruler: NamedRuler,
     id: u32,
     directory: &mut [u32],
@@ -186,8 +180,7 @@ pub extern "C" fn kheyambo_remove(
     in_numbers(edit::remove(numbers_named(ruler), directory, originals, replicas, id))
 }
 
-#[unsafe(no_mangle)]
-pub extern "C" fn kheyambo_ask<'a>(
+pub fn kheyambo_ask<'a>(
     ruler: NamedRuler,
     code: u32,
     start: u32,
@@ -219,8 +212,7 @@ pub extern "C" fn kheyambo_ask<'a>(
 }
 
 // The counts of the census, row after row, into a lent array.
-#[unsafe(no_mangle)]
-pub extern "C" fn kheyambo_census(
+pub fn kheyambo_census(
     ruler: NamedRuler,
     directory: &[u32],
     originals: &[u32],
@@ -237,8 +229,7 @@ pub extern "C" fn kheyambo_census(
 }
 
 // A run: where it stands in the arenas, and nothing copied.
-#[unsafe(no_mangle)]
-pub extern "C" fn kheyambo_run<'a>(
+pub fn kheyambo_run<'a>(
     ruler: NamedRuler,
     level: u32,
     partition: u32,

@@ -1,12 +1,13 @@
 // The calls themselves: each takes its numbers and buffers and says its outcome, and the count where it gives one. The answer is then
 // written by the row.
-ghost use Rattle.std.specs.Prelude.{◌≤◌, length};
+ghost use Rattle.std.specs.Prelude.{◌≤◌, length, IfOk};
 
 use crate::print::ROOM;
 use crate::rows::{Call, Gives, Row};
 use crate::scan::{Ends, Fields};
 use crate::{print, scan};
 use layout::Outcome;
+use std::io;
 use trip::{Asking, Trip};
 use view::{LEVELS, SUBDIVISIONS};
 
@@ -123,64 +124,77 @@ fn called<'a>(
 
 // The run that a call shows.
 fn put_run<'a>(
+    rt: &impl Print,
     out: &mut [u8; ROOM],
     held: usize,
     n: Fields,
     directory: &[u32],
     originals: &'a [u32],
     replicas: &'a [u32],
-) -> usize
+) -> io::Result<usize>
     requires { held ≤ ROOM }
-    ensures { result ≤ ROOM }
+    ensures { IfOk result (λ end. end ≤ ROOM) }
 {
     let ruler = n.ruler;
     let part = view::run(
         ruler, directory, originals, replicas, n.first, n.second, n.third,
     );
-    print::words(out, held, part)
+    print::words(rt, out, held, part)
 }
 
 // The counts of a level.
-fn put_level(out: &mut [u8; ROOM], held: usize, counts: [u32; SUBDIVISIONS]) -> usize
+fn put_level(
+    rt: &impl Print,
+    out: &mut [u8; ROOM],
+    held: usize,
+    counts: [u32; SUBDIVISIONS],
+) -> io::Result<usize>
     requires { held ≤ ROOM }
-    ensures { result ≤ ROOM }
+    ensures { IfOk result (λ end. end ≤ ROOM) }
 {
-    print::numbers(out, held, &counts)
+    print::numbers(rt, out, held, &counts)
 }
 
 // The counts of all levels, one after another.
-fn put_levels(out: &mut [u8; ROOM], from: usize, levels: [[u32; SUBDIVISIONS]; LEVELS]) -> usize
+fn put_levels(
+    rt: &impl Print,
+    out: &mut [u8; ROOM],
+    from: usize,
+    levels: [[u32; SUBDIVISIONS]; LEVELS],
+) -> io::Result<usize>
     requires { from ≤ ROOM }
-    ensures { result ≤ ROOM }
+    ensures { IfOk result (λ end. end ≤ ROOM) }
 {
     let mut held = from;
     let mut level: usize = 0;
     while level < LEVELS {
         let counts = levels[level];
-        held = put_level(out, held, counts);
+        held = put_level(rt, out, held, counts)?;
         level += 1;
     }
-    held
+    Ok(held)
 }
 
 fn put_census(
+    rt: &impl Print,
     out: &mut [u8; ROOM],
     held: usize,
     n: Fields,
     directory: &[u32],
     originals: &[u32],
     replicas: &[u32],
-) -> usize
+) -> io::Result<usize>
     requires { held ≤ ROOM }
-    ensures { result ≤ ROOM }
+    ensures { IfOk result (λ end. end ≤ ROOM) }
 {
     let ruler = n.ruler;
     let counts = view::census(ruler, directory, originals, replicas);
-    put_levels(out, held, counts)
+    put_levels(rt, out, held, counts)
 }
 
 // The outcome, and what the row gives after it.
 fn put_said<'a>(
+    rt: &impl Print,
     out: &mut [u8; ROOM],
     said: Said,
     gives: Gives,
@@ -188,20 +202,21 @@ fn put_said<'a>(
     a: &[u32],
     b: &'a [u32],
     c: &'a [u32],
-) -> usize
-    ensures { result ≤ ROOM }
+) -> io::Result<usize>
+    ensures { IfOk result (λ end. end ≤ ROOM) }
 {
-    let held = print::outcome(out, said.number, said.detail);
+    let held = print::outcome(rt, out, said.number, said.detail)?;
     match gives {
-        Gives::Nothing => held,
-        Gives::Count => print::number(out, held, said.count),
-        Gives::Run => put_run(out, held, n, a, b, c),
-        Gives::Census => put_census(out, held, n, a, b, c),
+        Gives::Nothing => Ok(held),
+        Gives::Count => print::number(rt, out, held, said.count),
+        Gives::Run => put_run(rt, out, held, n, a, b, c),
+        Gives::Census => put_census(rt, out, held, n, a, b, c),
     }
 }
 
 // Writes the answer of a call: what it said, what its row gives, and the buffers that it may write.
 fn put_answer<'a>(
+    rt: &impl Print,
     row: Row,
     said: Said,
     n: Fields,
@@ -211,18 +226,19 @@ fn put_answer<'a>(
     first: &[u32],
     second: &[u32],
     third: &[u32],
-) {
+) -> io::Result<()> {
     let mut out = [0u8; ROOM];
     let gives = row.gives;
-    let head = put_said(&mut out, said, gives, n, a, b, c);
-    let one = print::words_if(&mut out, head, row.writes.first, first);
-    let two = print::words_if(&mut out, one, row.writes.second, second);
-    let three = print::words_if(&mut out, two, row.writes.third, third);
-    print::finish(&mut out, three);
+    let head = put_said(rt, &mut out, said, gives, n, a, b, c)?;
+    let one = print::words_if(rt, &mut out, head, row.writes.first, first)?;
+    let two = print::words_if(rt, &mut out, one, row.writes.second, second)?;
+    let three = print::words_if(rt, &mut out, two, row.writes.third, third)?;
+    print::finish(rt, &mut out, three)
 }
 
 // Makes the call and writes its answer. The buffers that it only reads are `a`, `b` and `c`, in the order of the line.
 fn make_on(
+    rt: &impl Print,
     row: Row,
     n: Fields,
     ends: Ends,
@@ -230,17 +246,18 @@ fn make_on(
     first: &mut [u32],
     second: &mut [u32],
     third: &mut [u32],
-) {
+) -> io::Result<()> {
     let call = row.call;
     let a = scan::part(read, 0, ends.first);
     let b = scan::part(read, ends.first, ends.second);
     let c = scan::part(read, ends.second, ends.third);
     let said = called(call, n, a, b, c, first, second, third);
-    put_answer(row, said, n, a, b, c, first, second, third);
+    put_answer(rt, row, said, n, a, b, c, first, second, third)
 }
 
 // The same with the words lent, of which the buffers are the first.
 pub fn make(
+    rt: &impl Print,
     row: Row,
     n: Fields,
     reads: Ends,
@@ -249,7 +266,7 @@ pub fn make(
     first: &mut [u32],
     second: &mut [u32],
     third: &mut [u32],
-)
+) -> io::Result<()>
     requires first_in_bounds { writes.first ≤ length first.old }
     requires second_in_bounds { writes.second ≤ length second.old }
     requires third_in_bounds { writes.third ≤ length third.old }
@@ -258,6 +275,7 @@ pub fn make(
     let y = writes.second;
     let z = writes.third;
     make_on(
+        rt,
         row,
         n,
         reads,
@@ -265,5 +283,5 @@ pub fn make(
         &mut first[0..x],
         &mut second[0..y],
         &mut third[0..z],
-    );
+    )
 }

@@ -1,7 +1,8 @@
 // Reading the input: it comes in chunks, and a line is kept until its newline.
-ghost use Rattle.std.specs.Prelude.{◌≡◌, ◌≤◌, length};
+ghost use Rattle.std.specs.Prelude.{◌≡◌, ◌≤◌, length, IfOk};
 
-use libc::STDIN_FILENO;
+use std::io;
+use std::io::Read;
 
 // What is kept of a line. The longest call is a build under the second ruler with every buffer full: its name, the ruler's word after a space, and
 // 101,007 numbers of at most ten digits, each after a space, are 1,111,089 bytes. So a line that fills this is no call.
@@ -94,40 +95,48 @@ fn take_end(held: usize) -> Standing
 }
 
 // Takes up to a newline from the chunk, which is read anew where nothing of it is left.
-fn take_some(from: Standing, chunk: &mut [u8; CHUNK], line: &mut [u8; LINE]) -> Standing
+fn take_some<R: Read>(
+    reader: &mut R,
+    from: Standing,
+    chunk: &mut [u8; CHUNK],
+    line: &mut [u8; LINE],
+) -> io::Result<Standing>
     requires { from.got ≤ CHUNK }
-    ensures { result.got ≤ CHUNK }
+    ensures { IfOk result (λ standing. standing.got ≤ CHUNK) }
 {
     let held = held_on(from);
     if from.at < from.got {
-        return take_line(chunk, from.at, from.got, line, held);
+        return Ok(take_line(chunk, from.at, from.got, line, held));
     }
-    let got = io::count(libc::read(STDIN_FILENO, chunk), chunk);
+    let got = reader.read(chunk)?;
     if got == 0 {
-        return take_end(held);
+        return Ok(take_end(held));
     }
-    take_line(chunk, 0, got, line, held)
+    Ok(take_line(chunk, 0, got, line, held))
 }
 
-// Reads on to the end of a line. Where none is left it is not whole. A proved loop has to end, so it counts its turns down, from a number
-// that no run uses up.
-pub fn next_line(from: Standing, chunk: &mut [u8; CHUNK], line: &mut [u8; LINE]) -> Standing
+// Reads on to the end of a line. Where none is left it is not whole. A proved loop has to end, so it has a number of turns that no run
+// uses up.
+pub fn next_line<R: Read>(
+    reader: &mut R,
+    from: Standing,
+    chunk: &mut [u8; CHUNK],
+    line: &mut [u8; LINE],
+) -> io::Result<Standing>
     requires { from.got ≤ CHUNK }
-    ensures { result.got ≤ CHUNK }
+    ensures { IfOk result (λ standing. standing.got ≤ CHUNK) }
 {
     let mut standing = from;
-    let mut turns = u64::MAX;
-    while 0 < turns {
+    for _ in 0..u64::MAX {
         if !standing.more {
-            return take_end(0);
+            return Ok(take_end(0));
         }
-        standing = take_some(standing, chunk, line);
+        standing = take_some(reader, standing, chunk, line)?;
         if standing.whole {
-            return standing;
+            return Ok(standing);
         }
-        turns -= 1;
     }
-    take_end(0)
+    Ok(take_end(0))
 }
 
 // The line that is held. Of one that fills its buffer the rest may be missing, so it is taken for an empty one: neither is a call.

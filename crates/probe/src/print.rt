@@ -1,7 +1,7 @@
 // Writing the answer of a call: numbers with one space between, through a buffer that is written out whenever it is nearly full.
-ghost use Rattle.std.specs.Prelude.{◌+◌, ◌≤◌, length};
+ghost use Rattle.std.specs.Prelude.{◌+◌, ◌≤◌, length, IfOk};
 
-use libc::STDOUT_FILENO;
+use std::io;
 
 // The bytes that are written at once. Each answer has such a buffer of its own, so that no function but these carries it.
 pub const ROOM: usize = 4096;
@@ -12,22 +12,22 @@ const DIGITS: usize = text::MOST_DIGITS;
 const SPARE: usize = DIGITS + 1;
 
 // Writes out what the buffer holds.
-fn flush(out: &[u8], held: usize)
+fn flush(rt: &impl Print, out: &[u8], held: usize) -> io::Result<()>
     requires { held ≤ length out.now }
 {
-    io::write_all(STDOUT_FILENO, &out[0..held]);
+    rt.write_all(&out[0..held])
 }
 
 // Writes out what the buffer holds where it has no room for one more field, and says how much it holds then.
-fn with_room(out: &[u8], held: usize) -> usize
+fn with_room(rt: &impl Print, out: &[u8], held: usize) -> io::Result<usize>
     requires { (held ≤ length out.now) × (SPARE ≤ length out.now) }
-    ensures { result + SPARE ≤ length out.now }
+    ensures { IfOk result (λ n. n + SPARE ≤ length out.now) }
 {
     if out.len() - held < SPARE {
-        flush(out, held);
-        return 0;
+        flush(rt, out, held)?;
+        return Ok(0);
     }
-    held
+    Ok(held)
 }
 
 // Puts the digits of a number at a place.
@@ -39,35 +39,40 @@ fn put(out: &mut [u8], at: usize, n: u32) -> usize
 }
 
 // Puts a number after what the buffer holds, and a space before it.
-pub fn number(out: &mut [u8; ROOM], held: usize, n: u32) -> usize
+pub fn number(rt: &impl Print, out: &mut [u8; ROOM], held: usize, n: u32) -> io::Result<usize>
     requires { held ≤ ROOM }
-    ensures { result ≤ ROOM }
+    ensures { IfOk result (λ end. end ≤ ROOM) }
 {
-    let at = with_room(out, held);
+    let at = with_room(rt, out, held)?;
     out[at] = b' ';
-    put(out, at + 1, n)
+    Ok(put(out, at + 1, n))
 }
 
 // The number and the detail of an outcome: the first number of a line has no space before it.
-pub fn outcome(out: &mut [u8; ROOM], n: u32, detail: u32) -> usize
-    ensures { result ≤ ROOM }
+pub fn outcome(rt: &impl Print, out: &mut [u8; ROOM], n: u32, detail: u32) -> io::Result<usize>
+    ensures { IfOk result (λ end. end ≤ ROOM) }
 {
     let held = put(out, 0, n);
-    number(out, held, detail)
+    number(rt, out, held, detail)
 }
 
 // Puts numbers one after another.
-pub fn numbers(out: &mut [u8; ROOM], from: usize, part: &[u32]) -> usize
+pub fn numbers(
+    rt: &impl Print,
+    out: &mut [u8; ROOM],
+    from: usize,
+    part: &[u32],
+) -> io::Result<usize>
     requires { from ≤ ROOM }
-    ensures { result ≤ ROOM }
+    ensures { IfOk result (λ end. end ≤ ROOM) }
 {
     let mut held = from;
     let mut i: usize = 0;
     while i < part.len() {
-        held = number(out, held, part[i]);
+        held = number(rt, out, held, part[i])?;
         i += 1;
     }
-    held
+    Ok(held)
 }
 
 // A length as a number to write. No buffer of the port has more words than a u32 counts.
@@ -76,30 +81,36 @@ fn count_of(words: &[u32]) -> u32 {
 }
 
 // Puts the length and the words of a buffer.
-pub fn words(out: &mut [u8; ROOM], from: usize, part: &[u32]) -> usize
+pub fn words(rt: &impl Print, out: &mut [u8; ROOM], from: usize, part: &[u32]) -> io::Result<usize>
     requires { from ≤ ROOM }
-    ensures { result ≤ ROOM }
+    ensures { IfOk result (λ end. end ≤ ROOM) }
 {
-    let held = number(out, from, count_of(part));
-    numbers(out, held, part)
+    let held = number(rt, out, from, count_of(part))?;
+    numbers(rt, out, held, part)
 }
 
 // The same where the call has that buffer: one without room is none.
-pub fn words_if(out: &mut [u8; ROOM], from: usize, room: usize, part: &[u32]) -> usize
+pub fn words_if(
+    rt: &impl Print,
+    out: &mut [u8; ROOM],
+    from: usize,
+    room: usize,
+    part: &[u32],
+) -> io::Result<usize>
     requires { from ≤ ROOM }
-    ensures { result ≤ ROOM }
+    ensures { IfOk result (λ end. end ≤ ROOM) }
 {
     if room == 0 {
-        return from;
+        return Ok(from);
     }
-    words(out, from, part)
+    words(rt, out, from, part)
 }
 
 // Ends the line and writes it out.
-pub fn finish(out: &mut [u8; ROOM], held: usize)
+pub fn finish(rt: &impl Print, out: &mut [u8; ROOM], held: usize) -> io::Result<()>
     requires { held ≤ ROOM }
 {
-    let at = with_room(out, held);
+    let at = with_room(rt, out, held)?;
     out[at] = b'\n';
-    flush(out, at + 1);
+    flush(rt, out, at + 1)
 }

@@ -2,14 +2,15 @@
 // does and is answered, are the proved functions of `feeding`; this program reads, feeds and writes.
 #![tactic(auto)]
 
-ghost use Rattle.std.specs.Prelude.{◌≡◌, ◌≤◌, length};
+ghost use Rattle.std.specs.Prelude.{◌≡◌, ◌≤◌, length, IfOk, OnErr};
 ghost use Rattle.layout.specs.Calls.{index};
 ghost use Rattle.dialogue.specs.Session.{state, start};
 ghost use Rattle.feeding.specs.Feeding.{feed_of, held_by, Sound, Reached};
 
 use feeding::Standing;
 use layout::ENTRY_WORDS;
-use libc::{STDIN_FILENO, STDOUT_FILENO};
+use std::io;
+use std::io::{Read, Write};
 
 // The words lent: a directory for m = 8, 256 originals, 3,328 replicas and 256 answers.
 const DIRECTORY: usize = 2046;
@@ -27,21 +28,22 @@ const CHUNK: usize = 256;
 const OUT: usize = 729088;
 
 // Reads once, and says how many bytes came.
-fn read_some(input: &mut [u8; CHUNK]) -> usize
-    ensures { (result ≤ length input.new) × (result ≤ CHUNK) }
+fn read_some<R: Read>(reader: &mut R, input: &mut [u8; CHUNK]) -> io::Result<usize>
+    ensures { IfOk result (λ n. (n ≤ length input.new) × (n ≤ CHUNK)) }
 {
-    io::count(libc::read(STDIN_FILENO, input), input)
+    reader.read(input)
 }
 
 // Writes the first bytes of what was answered.
-fn write_front(out: &[u8], n: usize)
+fn write_front<W: Write>(writer: &mut W, out: &[u8], n: usize) -> io::Result<()>
     requires { n ≤ length out.now }
 {
-    io::write_all(STDOUT_FILENO, &out[0..n]);
+    writer.write_all(&out[0..n])
 }
 
-// A chunk is fed, and what it is answered is written.
-fn take_chunk(
+// A chunk is fed, and what it is answered is written. Where that fails, the chunk is fed all the same.
+fn take_chunk<W: Write>(
+    writer: &mut W,
     from: Standing,
     chunk: &[u8],
     directory: &mut [u32; DIRECTORY],
@@ -49,55 +51,64 @@ fn take_chunk(
     replicas: &mut [u32; REPLICAS],
     answers: &mut [u32; ANSWERS],
     out: &mut [u8; OUT],
-) -> Standing
+) -> io::Result<Standing>
     requires { Sound from × (length chunk.now ≤ CHUNK) }
-    ensures { Sound result
-        × (held_by result (index directory.new originals.new replicas.new) answers.new
+    ensures ok { IfOk result (λ standing. Sound standing
+        × (held_by standing (index directory.new originals.new replicas.new) answers.new
         ≡ (feed_of (held_by from (index directory.old originals.old replicas.old) answers.old)
-        chunk.now).after) }
+        chunk.now).after)) }
+    ensures err { OnErr result ((standing : Standing) × Sound standing
+        × (held_by standing (index directory.new originals.new replicas.new) answers.new
+        ≡ (feed_of (held_by from (index directory.old originals.old replicas.old) answers.old)
+        chunk.now).after)) }
 {
     let fed = feeding::feed(from, chunk, directory, originals, replicas, answers, out);
-    write_front(out, fed.written);
-    fed.standing
+    write_front(writer, out, fed.written)?;
+    Ok(fed.standing)
 }
 
 // The end of the input, and what a last line without its newline is answered.
-fn take_end(
+fn take_end<W: Write>(
+    writer: &mut W,
     standing: Standing,
     directory: &mut [u32; DIRECTORY],
     originals: &mut [u32; ORIGINALS],
     replicas: &mut [u32; REPLICAS],
     answers: &mut [u32; ANSWERS],
     out: &mut [u8; OUT],
-)
+) -> io::Result<()>
     requires { Sound standing }
 {
     let fed = feeding::finish(standing, directory, originals, replicas, answers, out);
-    write_front(out, fed.written);
+    write_front(writer, out, fed.written)
 }
 
-// Reads the input to its end, or to a line that ends the session. What is then held is what some input, fed from the start, leaves. A proved
-// loop has to end, so it counts its turns down, from a number that no run uses up.
-fn take_all(
+// Reads the input to its end, or to a line that ends the session. What is then held is what some input, fed from the start, leaves; so it is
+// where a read or a write fails. A proved loop has to end, so it has a number of turns that no run uses up.
+fn take_all<R: Read, W: Write>(
+    reader: &mut R,
+    writer: &mut W,
     directory: &mut [u32; DIRECTORY],
     originals: &mut [u32; ORIGINALS],
     replicas: &mut [u32; REPLICAS],
     answers: &mut [u32; ANSWERS],
     out: &mut [u8; OUT],
-) -> Standing
+) -> io::Result<Standing>
     requires { state start.desk (index directory.old originals.old replicas.old) answers.old ≡ start }
-    ensures { Sound result
-        × Reached (held_by result (index directory.new originals.new replicas.new) answers.new) }
+    ensures ok { IfOk result (λ standing. Sound standing
+        × Reached (held_by standing (index directory.new originals.new replicas.new) answers.new)) }
+    ensures err { OnErr result ((standing : Standing) × Sound standing
+        × Reached (held_by standing (index directory.new originals.new replicas.new) answers.new)) }
 {
     let mut input = [0u8; CHUNK];
     let mut standing = feeding::begin();
-    let mut turns = u64::MAX;
-    while 0 < turns {
-        let got = read_some(&mut input);
+    for _ in 0..u64::MAX {
+        let got = read_some(reader, &mut input)?;
         if got == 0 {
-            return standing;
+            return Ok(standing);
         }
         standing = take_chunk(
+            writer,
             standing,
             &input[0..got],
             directory,
@@ -105,34 +116,38 @@ fn take_all(
             replicas,
             answers,
             out,
-        );
+        )?;
         if !feeding::goes_on(standing) {
-            return standing;
+            return Ok(standing);
         }
-        turns -= 1;
     }
-    standing
+    Ok(standing)
 }
 
-fn main() {
+fn main(rt: HostRuntime) -> io::Result<()> {
+    let mut reader = rt.stdin();
+    let mut writer = rt.stdout();
     let mut directory = [0u32; DIRECTORY];
     let mut originals = [0u32; ORIGINALS];
     let mut replicas = [0u32; REPLICAS];
     let mut answers = [0u32; ANSWERS];
     let mut out = [0u8; OUT];
     let standing = take_all(
+        &mut reader,
+        &mut writer,
         &mut directory,
         &mut originals,
         &mut replicas,
         &mut answers,
         &mut out,
-    );
+    )?;
     take_end(
+        &mut writer,
         standing,
         &mut directory,
         &mut originals,
         &mut replicas,
         &mut answers,
         &mut out,
-    );
+    )
 }
