@@ -1,0 +1,43 @@
+-- The word, the number and a newline, one after another.
+use Rattle.dialogue.specs.Reply.{as_line, outcome_bytes, ok_bytes, refused_bytes}
+use mathlib.Core.Path.{◌≡◌, ap, ◌∙◌}
+use mathlib.Core.List.{[], ◌∷◌, ◌++◌}
+use lib.ListN.{length}
+use lib.Seq.{length-sets}
+use Rattle.text.specs.Bytes.{space, newline}
+use Rattle.text.specs.Decimal.{decimal}
+use Rattle.text.proofs.Writing.{ten_digits}
+use Rattle.dialogue.proofs.Replies.{three_puts}
+use native.Mathlib.Omega.{arith}
+use borrow.Author.Rules.{rules}
+use Rattle.dialogue.proofs.reply.put_outcome.Goals as goal
+
+pub put-requires-in-Refused : goal.put-requires-in-Refused
+put-requires-in-Refused c =
+    let w = c.put-word.ensures in
+    let n = c.put_number-number.ensures in
+    let few = ten_digits c.refusal_number.result (omega arith) in
+    let long : length c.put_number-number.new.reply
+    ≡ length c.args.reply.now =
+    ap length n.1 ∙ simp length-sets (ap length w.1 ∙ simp length-sets) in
+    omega (arith, w.0, n.0)
+
+pub returns-in-Accepted : goal.returns-in-Accepted
+unfolding as_line outcome_bytes ok_bytes
+returns-in-Accepted c = rw c.in-Accepted.is
+    (c.put.ensures.0, c.put.ensures.1, omega (arith, c.put.ensures.0))
+
+pub returns-in-Refused : goal.returns-in-Refused
+unfolding as_line outcome_bytes refused_bytes
+returns-in-Refused c =
+    let at-reply3 = c in
+    let at-put2 = at-reply3 in
+    let at-outcome = at-put2 in
+    let r = at-reply3.refusal_number in
+    let three = three_puts at-outcome.args.reply.now (refused_bytes ++ (space ∷ [])) (decimal r.result) (newline ∷ [])
+    at-put2.put-word.ensures at-reply3.put_number-number.ensures c.put-in-Refused.ensures in
+    let few = ten_digits r.result (omega arith) in
+    let w = at-put2.put-word.ensures in
+    let n = at-reply3.put_number-number.ensures in
+    let whole = rw r.ensures at three in
+    rw at-outcome.in-Refused.is (whole.0, whole.1, omega (arith, w.0, n.0, c.put-in-Refused.ensures.0))

@@ -1,0 +1,23 @@
+-- The front of the directory is edited and put back, and the outcome is written.
+use Rattle.dialogue.proofs.SessionTurns.{in_front, edited_done}
+use Rattle.layout.specs.Calls.{After, add_of}
+use Rattle.layout.specs.Words.{Index}
+use Rattle.ruler.specs.Ruler.{scale_of}
+use borrow.Author.Rules.{rules}
+use Rattle.dialogue.proofs.turn.add_turn.Goals as goal
+
+pub slice_bounds-add-end : goal.slice_bounds-add-end
+slice_bounds-add-end c = let g = c in
+    in_front g.args.desk.numbers g.args.directory.now c.directory_words-n.ensures g.requires.0 g.requires.1
+
+pub returns : goal.returns
+returns c =
+    let g = c in
+    let a = g.args in
+    let n = c.directory_words-n in
+    let made = c.add-outcome in
+    let call : Index → After = λ x. add_of (scale_of a.desk.numbers) x a.t in
+    λ l. rw c.goes_on.ensures (edited_done a.desk.numbers a.directory.now a.originals.now a.replicas.now n.result
+    n.ensures g.requires.0 g.requires.1
+    a.desk l call made.ensures c.directory-1.given.0
+    c.put_outcome-written.ensures)

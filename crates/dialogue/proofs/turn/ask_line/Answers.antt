@@ -1,0 +1,21 @@
+-- Malformed before a D line, and else the turn of its kind.
+use Rattle.dialogue.specs.Session.{turn_of}
+use Rattle.layout.specs.Calls.{index}
+use borrow.Author.Tests.{not-true, not-false}
+use borrow.Author.Rules.{rules}
+use Rattle.dialogue.proofs.SessionTurns.{done_then, done_else}
+use Rattle.dialogue.proofs.turn.ask_line.Goals as goal
+
+pub returns-then-not-desk : goal.returns-then-not-desk
+unfolding turn_of
+returns-then-not-desk c =
+    let a = c.args in
+    done_else a.desk.started _ _ (not-true _ c.if-not-desk.true)
+    (c.bad_turn.ensures (index a.directory.now a.originals.now a.replicas.now) a.answers.now)
+
+pub returns : goal.returns
+unfolding turn_of
+returns c = let at-ask-turn = c in let at_body = at-ask-turn in done_then
+    at_body.args.desk.started
+    _ _ (not-false _ at-ask-turn.if-not-desk.false)
+    (rw at-ask-turn.of-asking.ensures at at-ask-turn.ask_turn.ensures)

@@ -1,0 +1,13 @@
+-- The outcome of the entry and the count, in numbers.
+use Rattle.export.specs.Said.{ask_said}
+use Rattle.export.proofs.Thin.{told_so}
+use borrow.Author.Rules.{rules}
+use Rattle.export.proofs.kheyambo_ask.Goals as goal
+
+pub returns : goal.returns
+unfolding ask_said
+returns c =
+    let asks = c in
+    let named = asks in
+    told_so c.number_of.ensures c.detail_of.ensures
+    (rw (named.numbers_named.ensures, named.of-asking.ensures) at asks.ask-answered.ensures)

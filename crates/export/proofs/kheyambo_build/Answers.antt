@@ -1,0 +1,18 @@
+-- The outcome of the entry, in numbers.
+use mathlib.Core.Path.{ap, ◌∙◌}
+use Rattle.ruler.specs.declared.Numbers.{Numbers}
+use Rattle.layout.specs.Calls.{index}
+use Rattle.export.specs.Said.{build_said}
+use Rattle.export.proofs.Thin.{left_so}
+use borrow.Author.Rules.{rules}
+use Rattle.export.proofs.kheyambo_build.Goals as goal
+
+pub returns : goal.returns
+unfolding build_said
+returns c =
+    let at-build = c in
+    let named = c in
+    let a = c.args in
+    let x = index a.directory.now a.originals.now a.replicas.now in
+    left_so c.in_numbers.ensures at-build.build.ensures
+    ∙ ap (λ (n : Numbers). build_said n a.table.now x) named.numbers_named.ensures

@@ -1,0 +1,9 @@
+-- The outcome of the entry, in numbers.
+use Rattle.export.specs.Said.{said_of, check_said}
+use mathlib.Core.Path.{ap, ◌∙◌}
+use borrow.Author.Rules.{rules}
+use Rattle.export.proofs.kheyambo_check.Goals as goal
+
+pub returns : goal.returns
+unfolding check_said
+returns c = c.in_numbers.ensures ∙ ap said_of (rw c.numbers_named.ensures at c.check.ensures)

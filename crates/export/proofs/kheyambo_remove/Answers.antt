@@ -1,0 +1,18 @@
+-- The outcome of the entry, in numbers.
+use mathlib.Core.Path.{ap, ◌∙◌}
+use Rattle.ruler.specs.declared.Numbers.{Numbers}
+use Rattle.layout.specs.Calls.{index}
+use Rattle.export.specs.Said.{remove_said}
+use Rattle.export.proofs.Thin.{left_so}
+use borrow.Author.Rules.{rules}
+use Rattle.export.proofs.kheyambo_remove.Goals as goal
+
+pub returns : goal.returns
+unfolding remove_said
+returns c =
+    let at-remove = c in
+    let named = c in
+    let a = c.args in
+    let x = index a.directory.now a.originals.now a.replicas.now in
+    left_so c.in_numbers.ensures at-remove.remove.ensures
+    ∙ ap (λ (n : Numbers). remove_said n a.id x) named.numbers_named.ensures
