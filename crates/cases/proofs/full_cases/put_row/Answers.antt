@@ -1,0 +1,17 @@
+-- The length stays.
+use lib.ListN.{length-set}
+use native.Mathlib.Omega.{arith}
+use borrow.Author.Rules.{rules}
+use Rattle.cases.proofs.full_cases.put_row.Goals as goal
+
+pub bounds-table-at-2 : goal.bounds-table-at-2
+bounds-table-at-2 c = simp length-set (omega arith)
+
+pub bounds-table-at-3 : goal.bounds-table-at-3
+bounds-table-at-3 c = simp length-set (omega arith)
+
+pub bounds-table-at-4 : goal.bounds-table-at-4
+bounds-table-at-4 c = simp length-set (omega arith)
+
+pub shape_of-table : goal.shape_of-table
+shape_of-table c = simp length-set (omega arith)
