@@ -1,0 +1,6 @@
+-- What is left of a chunk lies within it.
+use Prim.Native.Nat.{◌≤◌}
+use Rattle.probe.proofs.take_all.Given as goal
+
+abbrev pub invariant-loop : goal.invariant-loop
+invariant-loop g l = l.standing.got ≤ 65536
