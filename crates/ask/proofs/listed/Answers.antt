@@ -70,8 +70,11 @@ list_levels-count-requires c =
     c.sought_by-sought.ensures
     c.plan_for-plan.ensures in
     let told = c.in_default.is in
-    let room = c.room_for-room.ensures in record { levels_there = same-there g.ruler s.requires.made x s.requires.replicas_value g.question s.requires.on_ruler
-          c.plan_for-plan.ensures; plan_in_bounds = of_room _ _ (sym room ∙ told) }
+    let room = c.room_for-room.ensures in record {
+      levels_there = same-there g.ruler s.requires.made x s.requires.replicas_value g.question s.requires.on_ruler
+          c.plan_for-plan.ensures;
+      plan_in_bounds = of_room _ _ (sym room ∙ told);
+    }
 
 pub slice_bounds-sort_ids-end : goal.slice_bounds-sort_ids-end
 slice_bounds-sort_ids-end c =

@@ -17,10 +17,10 @@ half_length-middle-requires c = let s = c in rw c.bottom.ensures (deep-ruler s.a
 pub slice_bounds-add_half-end : goal.slice_bounds-add_half-end
 slice_bounds-add_half-end c =
     let half : c.half_length-middle.result ≡ half_length (scale c.args.ruler).m = c.half_length-middle.ensures ∙ ap half_length c.bottom.ensures in
-    let both : length c.args.directory.now ≡ c.half_length-middle.result + c.half_length-middle.result = 
-        let s = c in
-        let x = index s.args.directory.now s.args.originals.now s.args.replicas.now in
-        two_parts _ _ _ (adding s.args.ruler s.requires.made x s.args.t s.requires.t_value) half in
+    let both : length c.args.directory.now ≡ c.half_length-middle.result + c.half_length-middle.result =
+    let s = c in
+    let x = index s.args.directory.now s.args.originals.now s.args.replicas.now in
+    two_parts _ _ _ (adding s.args.ruler s.requires.made x s.args.t s.requires.t_value) half in
     omega (arith, both)
 
 pub add_half-requires : goal.add_half-requires
@@ -34,28 +34,28 @@ add_half-requires c =
 pub offset_bounds-directory-middle : goal.offset_bounds-directory-middle
 offset_bounds-directory-middle c =
     let half : c.half_length-middle.result ≡ half_length (scale c.args.ruler).m = c.half_length-middle.ensures ∙ ap half_length c.bottom.ensures in
-    let both : length c.args.directory.now ≡ c.half_length-middle.result + c.half_length-middle.result = 
-        let s = c in
-        let x = index s.args.directory.now s.args.originals.now s.args.replicas.now in
-        two_parts _ _ _ (adding s.args.ruler s.requires.made x s.args.t s.requires.t_value) half in
+    let both : length c.args.directory.now ≡ c.half_length-middle.result + c.half_length-middle.result =
+    let s = c in
+    let x = index s.args.directory.now s.args.originals.now s.args.replicas.now in
+    two_parts _ _ _ (adding s.args.ruler s.requires.made x s.args.t s.requires.t_value) half in
     omega (arith, both)
 
 pub slice_bounds-add_half-count-2 : goal.slice_bounds-add_half-count-2
 slice_bounds-add_half-count-2 c =
     let half : c.half_length-middle.result ≡ half_length (scale c.args.ruler).m = c.half_length-middle.ensures ∙ ap half_length c.bottom.ensures in
-    let both : length c.args.directory.now ≡ c.half_length-middle.result + c.half_length-middle.result = 
-        let s = c in
-        let x = index s.args.directory.now s.args.originals.now s.args.replicas.now in
-        two_parts _ _ _ (adding s.args.ruler s.requires.made x s.args.t s.requires.t_value) half in
+    let both : length c.args.directory.now ≡ c.half_length-middle.result + c.half_length-middle.result =
+    let s = c in
+    let x = index s.args.directory.now s.args.originals.now s.args.replicas.now in
+    two_parts _ _ _ (adding s.args.ruler s.requires.made x s.args.t s.requires.t_value) half in
     omega (arith, both)
 
 pub slice_bounds-add_half-start-2 : goal.slice_bounds-add_half-start-2
 slice_bounds-add_half-start-2 c =
     let half : c.half_length-middle.result ≡ half_length (scale c.args.ruler).m = c.half_length-middle.ensures ∙ ap half_length c.bottom.ensures in
-    let both : length c.args.directory.now ≡ c.half_length-middle.result + c.half_length-middle.result = 
-        let s = c in
-        let x = index s.args.directory.now s.args.originals.now s.args.replicas.now in
-        two_parts _ _ _ (adding s.args.ruler s.requires.made x s.args.t s.requires.t_value) half in
+    let both : length c.args.directory.now ≡ c.half_length-middle.result + c.half_length-middle.result =
+    let s = c in
+    let x = index s.args.directory.now s.args.originals.now s.args.replicas.now in
+    two_parts _ _ _ (adding s.args.ruler s.requires.made x s.args.t s.requires.t_value) half in
     omega (arith, both)
 
 pub add_half-requires-2 : goal.add_half-requires-2

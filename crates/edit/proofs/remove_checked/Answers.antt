@@ -28,30 +28,30 @@ pub overflow_mul-used : goal.overflow_mul-used
 overflow_mul-used c =
     let words : Index = index c.args.directory.now c.args.originals.now c.args.replicas.now in
     let in-index : Shown (scale c.args.ruler) words = shown _ _ (checked _ _ c.requires.replicas_value) (deep-ruler c.args.ruler c.requires.made) in
-    let counted : c.trips_of-trips.result ≡ length (table_of (scale c.args.ruler) words) = 
-        let g = c in
-        c.trips_of-trips.ensures ∙ ap (λ (m : ℕ). get_or g.args.directory.now (2 * partitions m) 0) c.bottom.ensures
-        ∙ in-index.trips in
+    let counted : c.trips_of-trips.result ≡ length (table_of (scale c.args.ruler) words) =
+    let g = c in
+    c.trips_of-trips.ensures ∙ ap (λ (m : ℕ). get_or g.args.directory.now (2 * partitions m) 0) c.bottom.ensures
+    ∙ in-index.trips in
     omega (arith, in-index, counted)
 
 pub slice_bounds-find_id-end : goal.slice_bounds-find_id-end
 slice_bounds-find_id-end c =
     let words : Index = index c.args.directory.now c.args.originals.now c.args.replicas.now in
     let in-index : Shown (scale c.args.ruler) words = shown _ _ (checked _ _ c.requires.replicas_value) (deep-ruler c.args.ruler c.requires.made) in
-    let counted : c.trips_of-trips.result ≡ length (table_of (scale c.args.ruler) words) = 
-        let g = c in
-        c.trips_of-trips.ensures ∙ ap (λ (m : ℕ). get_or g.args.directory.now (2 * partitions m) 0) c.bottom.ensures
-        ∙ in-index.trips in
+    let counted : c.trips_of-trips.result ≡ length (table_of (scale c.args.ruler) words) =
+    let g = c in
+    c.trips_of-trips.ensures ∙ ap (λ (m : ℕ). get_or g.args.directory.now (2 * partitions m) 0) c.bottom.ensures
+    ∙ in-index.trips in
     omega (arith, in-index, counted)
 
 pub returns-then-trips-place : goal.returns-then-trips-place
 returns-then-trips-place c =
     let words : Index = index c.args.directory.now c.args.originals.now c.args.replicas.now in
     let in-index : Shown (scale c.args.ruler) words = shown _ _ (checked _ _ c.requires.replicas_value) (deep-ruler c.args.ruler c.requires.made) in
-    let counted : c.trips_of-trips.result ≡ length (table_of (scale c.args.ruler) words) = 
-        let g = c in
-        c.trips_of-trips.ensures ∙ ap (λ (m : ℕ). get_or g.args.directory.now (2 * partitions m) 0) c.bottom.ensures
-        ∙ in-index.trips in
+    let counted : c.trips_of-trips.result ≡ length (table_of (scale c.args.ruler) words) =
+    let g = c in
+    c.trips_of-trips.ensures ∙ ap (λ (m : ℕ). get_or g.args.directory.now (2 * partitions m) 0) c.bottom.ensures
+    ∙ in-index.trips in
     let g = c in
     let s = scale g.args.ruler in
     let x = index g.args.directory.now g.args.originals.now g.args.replicas.now in
@@ -66,17 +66,17 @@ trip_at-t-requires c =
     let words : Index = index c.args.directory.now c.args.originals.now c.args.replicas.now in
     let in-index : Shown (scale c.args.ruler) words = shown _ _ (checked _ _ c.requires.replicas_value) (deep-ruler c.args.ruler c.requires.made) in
     let counted : c.trips_of-trips.result ≡ length (table_of (scale c.args.ruler) words) =
-        c.trips_of-trips.ensures ∙ ap (λ (m : ℕ). get_or c.args.directory.now (2 * partitions m) 0) c.bottom.ensures ∙ in-index.trips in
+    c.trips_of-trips.ensures ∙ ap (λ (m : ℕ). get_or c.args.directory.now (2 * partitions m) 0) c.bottom.ensures ∙ in-index.trips in
     omega (arith, in-index, counted, c.if-trips-place.false)
 
 pub take_out-requires : goal.take_out-requires
 take_out-requires c =
     let words : Index = index c.args.directory.now c.args.originals.now c.args.replicas.now in
     let in-index : Shown (scale c.args.ruler) words = shown _ _ (checked _ _ c.requires.replicas_value) (deep-ruler c.args.ruler c.requires.made) in
-    let counted : c.trips_of-trips.result ≡ length (table_of (scale c.args.ruler) words) = 
-        let g = c in
-        c.trips_of-trips.ensures ∙ ap (λ (m : ℕ). get_or g.args.directory.now (2 * partitions m) 0) c.bottom.ensures
-        ∙ in-index.trips in
+    let counted : c.trips_of-trips.result ≡ length (table_of (scale c.args.ruler) words) =
+    let g = c in
+    c.trips_of-trips.ensures ∙ ap (λ (m : ℕ). get_or g.args.directory.now (2 * partitions m) 0) c.bottom.ensures
+    ∙ in-index.trips in
     let g = c in
     let s = scale g.args.ruler in
     let x = index g.args.directory.now g.args.originals.now g.args.replicas.now in
@@ -96,10 +96,10 @@ pub returns : goal.returns
 returns c =
     let words : Index = index c.args.directory.now c.args.originals.now c.args.replicas.now in
     let in-index : Shown (scale c.args.ruler) words = shown _ _ (checked _ _ c.requires.replicas_value) (deep-ruler c.args.ruler c.requires.made) in
-    let counted : c.trips_of-trips.result ≡ length (table_of (scale c.args.ruler) words) = 
-        let g = c in
-        c.trips_of-trips.ensures ∙ ap (λ (m : ℕ). get_or g.args.directory.now (2 * partitions m) 0) c.bottom.ensures
-        ∙ in-index.trips in
+    let counted : c.trips_of-trips.result ≡ length (table_of (scale c.args.ruler) words) =
+    let g = c in
+    c.trips_of-trips.ensures ∙ ap (λ (m : ℕ). get_or g.args.directory.now (2 * partitions m) 0) c.bottom.ensures
+    ∙ in-index.trips in
     let g = c in
     let s = scale g.args.ruler in
     let x = index g.args.directory.now g.args.originals.now g.args.replicas.now in

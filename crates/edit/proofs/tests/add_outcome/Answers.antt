@@ -44,13 +44,13 @@ returns-then-trips-ge-MOST_TRIPS c =
     let words : Index = index c.args.directory.now c.args.originals.now c.args.replicas.now in
     let trips : List Trip = table_of (scale c.args.ruler) words in
     let in-index : Shown (scale c.args.ruler) words = shown _ _ (checked _ _ c.requires.replicas_value) (deep-ruler c.args.ruler c.requires.made) in
-    let counted : (c.trips_of-trips.result ≡ length trips) × (c.entries_of-copies.result ≡ length (entries (scale c.args.ruler) Replicas trips)) = 
-        let g = c in
-        let w = in-index in (
-          c.trips_of-trips.ensures ∙ ap (λ (m : ℕ). get_or g.args.directory.now (2 * partitions m) 0) c.bottom.ensures
-              ∙ w.trips,
-          c.entries_of-copies.ensures ∙ w.copies,
-        ) in
+    let counted : (c.trips_of-trips.result ≡ length trips) × (c.entries_of-copies.result ≡ length (entries (scale c.args.ruler) Replicas trips)) =
+    let g = c in
+    let w = in-index in (
+      c.trips_of-trips.ensures ∙ ap (λ (m : ℕ). get_or g.args.directory.now (2 * partitions m) 0) c.bottom.ensures
+          ∙ w.trips,
+      c.entries_of-copies.ensures ∙ w.copies,
+    ) in
     let g = c in
     let w = in-index in
     let full : leb most_trips (length trips) ≡ true = le-leb most_trips (length trips)
@@ -62,13 +62,13 @@ slice_bounds-trip_outcome-end c =
     let words : Index = index c.args.directory.now c.args.originals.now c.args.replicas.now in
     let in-index : Shown (scale c.args.ruler) words = shown _ _ (checked _ _ c.requires.replicas_value) (deep-ruler c.args.ruler c.requires.made) in
     let trips : List Trip = table_of (scale c.args.ruler) words in
-    let counted : (c.trips_of-trips.result ≡ length trips) × (c.entries_of-copies.result ≡ length (entries (scale c.args.ruler) Replicas trips)) = 
-        let g = c in
-        let w = in-index in (
-          c.trips_of-trips.ensures ∙ ap (λ (m : ℕ). get_or g.args.directory.now (2 * partitions m) 0) c.bottom.ensures
-              ∙ w.trips,
-          c.entries_of-copies.ensures ∙ w.copies,
-        ) in
+    let counted : (c.trips_of-trips.result ≡ length trips) × (c.entries_of-copies.result ≡ length (entries (scale c.args.ruler) Replicas trips)) =
+    let g = c in
+    let w = in-index in (
+      c.trips_of-trips.ensures ∙ ap (λ (m : ℕ). get_or g.args.directory.now (2 * partitions m) 0) c.bottom.ensures
+          ∙ w.trips,
+      c.entries_of-copies.ensures ∙ w.copies,
+    ) in
     omega (arith, in-index, counted.0)
 
 pub returns-then-not-is_accepted : goal.returns-then-not-is_accepted
@@ -77,21 +77,21 @@ returns-then-not-is_accepted c =
     let words : Index = index c.args.directory.now c.args.originals.now c.args.replicas.now in
     let in-index : Shown (scale c.args.ruler) words = shown _ _ (checked _ _ c.requires.replicas_value) (deep-ruler c.args.ruler c.requires.made) in
     let trips : List Trip = table_of (scale c.args.ruler) words in
-    let counted : (c.trips_of-trips.result ≡ length trips) × (c.entries_of-copies.result ≡ length (entries (scale c.args.ruler) Replicas trips)) = 
-        let g = c in
-        let w = in-index in (
-          c.trips_of-trips.ensures ∙ ap (λ (m : ℕ). get_or g.args.directory.now (2 * partitions m) 0) c.bottom.ensures
-              ∙ w.trips,
-          c.entries_of-copies.ensures ∙ w.copies,
-        ) in
-    let few : leb most_trips (length trips) ≡ false = 
+    let counted : (c.trips_of-trips.result ≡ length trips) × (c.entries_of-copies.result ≡ length (entries (scale c.args.ruler) Replicas trips)) =
     let g = c in
-        lt-leb most_trips (length trips) (omega (arith, counted.0, c.if-trips-ge-MOST_TRIPS.false)) in
-    let row_is : c.trip_outcome-row.result ≡ row_tests (scale c.args.ruler) trips c.args.t 0 Accepted = 
-        let g = c in
-        let w = in-index in
-        let read = ap (λ (k : ℕ). rows (take (entry_words * k - 0) words.originals)) counted.0 ∙ w.listed in
-        c.trip_outcome-row.ensures ∙ ap (λ (l : List Trip). row_tests (scale g.args.ruler) l g.args.t 0 Accepted) read in
+    let w = in-index in (
+      c.trips_of-trips.ensures ∙ ap (λ (m : ℕ). get_or g.args.directory.now (2 * partitions m) 0) c.bottom.ensures
+          ∙ w.trips,
+      c.entries_of-copies.ensures ∙ w.copies,
+    ) in
+    let few : leb most_trips (length trips) ≡ false =
+    let g = c in
+    lt-leb most_trips (length trips) (omega (arith, counted.0, c.if-trips-ge-MOST_TRIPS.false)) in
+    let row_is : c.trip_outcome-row.result ≡ row_tests (scale c.args.ruler) trips c.args.t 0 Accepted =
+    let g = c in
+    let w = in-index in
+    let read = ap (λ (k : ℕ). rows (take (entry_words * k - 0) words.originals)) counted.0 ∙ w.listed in
+    c.trip_outcome-row.ensures ∙ ap (λ (l : List Trip). row_tests (scale g.args.ruler) l g.args.t 0 Accepted) read in
     let g = c in
     let is = row_is in
     let not_taken = sym (ap is_accepted is) ∙ sym c.is_accepted.ensures ∙ c.if-not-is_accepted.true in
@@ -103,18 +103,18 @@ lacks_room-requires c =
     let words : Index = index c.args.directory.now c.args.originals.now c.args.replicas.now in
     let in-index : Shown (scale c.args.ruler) words = shown _ _ (checked _ _ c.requires.replicas_value) (deep-ruler c.args.ruler c.requires.made) in
     let trips : List Trip = table_of (scale c.args.ruler) words in
-    let counted : (c.trips_of-trips.result ≡ length trips) × (c.entries_of-copies.result ≡ length (entries (scale c.args.ruler) Replicas trips)) = 
-        let g = c in
-        let w = in-index in (
-          c.trips_of-trips.ensures ∙ ap (λ (m : ℕ). get_or g.args.directory.now (2 * partitions m) 0) c.bottom.ensures
-              ∙ w.trips,
-          c.entries_of-copies.ensures ∙ w.copies,
-        ) in
-    let row_is : c.trip_outcome-row.result ≡ row_tests (scale c.args.ruler) trips c.args.t 0 Accepted = 
-        let g = c in
-        let w = in-index in
-        let read = ap (λ (k : ℕ). rows (take (entry_words * k - 0) words.originals)) counted.0 ∙ w.listed in
-        c.trip_outcome-row.ensures ∙ ap (λ (l : List Trip). row_tests (scale g.args.ruler) l g.args.t 0 Accepted) read in
+    let counted : (c.trips_of-trips.result ≡ length trips) × (c.entries_of-copies.result ≡ length (entries (scale c.args.ruler) Replicas trips)) =
+    let g = c in
+    let w = in-index in (
+      c.trips_of-trips.ensures ∙ ap (λ (m : ℕ). get_or g.args.directory.now (2 * partitions m) 0) c.bottom.ensures
+          ∙ w.trips,
+      c.entries_of-copies.ensures ∙ w.copies,
+    ) in
+    let row_is : c.trip_outcome-row.result ≡ row_tests (scale c.args.ruler) trips c.args.t 0 Accepted =
+    let g = c in
+    let w = in-index in
+    let read = ap (λ (k : ℕ). rows (take (entry_words * k - 0) words.originals)) counted.0 ∙ w.listed in
+    c.trip_outcome-row.ensures ∙ ap (λ (l : List Trip). row_tests (scale g.args.ruler) l g.args.t 0 Accepted) read in
     let row_ok : RowOk (scale c.args.ruler) trips c.args.t = row_taken _ _ _ _ row_is (sym c.is_accepted.ensures ∙ c.if-not-is_accepted.false) in
     let g = c in
     record { made = g.requires.made; fits = (row_ok.fits, omega (arith, in-index, counted.0)) }
@@ -125,21 +125,21 @@ returns-then-lacks_room c =
     let words : Index = index c.args.directory.now c.args.originals.now c.args.replicas.now in
     let in-index : Shown (scale c.args.ruler) words = shown _ _ (checked _ _ c.requires.replicas_value) (deep-ruler c.args.ruler c.requires.made) in
     let trips : List Trip = table_of (scale c.args.ruler) words in
-    let counted : (c.trips_of-trips.result ≡ length trips) × (c.entries_of-copies.result ≡ length (entries (scale c.args.ruler) Replicas trips)) = 
-        let g = c in
-        let w = in-index in (
-          c.trips_of-trips.ensures ∙ ap (λ (m : ℕ). get_or g.args.directory.now (2 * partitions m) 0) c.bottom.ensures
-              ∙ w.trips,
-          c.entries_of-copies.ensures ∙ w.copies,
-        ) in
-    let few : leb most_trips (length trips) ≡ false = 
+    let counted : (c.trips_of-trips.result ≡ length trips) × (c.entries_of-copies.result ≡ length (entries (scale c.args.ruler) Replicas trips)) =
     let g = c in
-        lt-leb most_trips (length trips) (omega (arith, counted.0, c.if-trips-ge-MOST_TRIPS.false)) in
-    let row_is : c.trip_outcome-row.result ≡ row_tests (scale c.args.ruler) trips c.args.t 0 Accepted = 
-        let g = c in
-        let w = in-index in
-        let read = ap (λ (k : ℕ). rows (take (entry_words * k - 0) words.originals)) counted.0 ∙ w.listed in
-        c.trip_outcome-row.ensures ∙ ap (λ (l : List Trip). row_tests (scale g.args.ruler) l g.args.t 0 Accepted) read in
+    let w = in-index in (
+      c.trips_of-trips.ensures ∙ ap (λ (m : ℕ). get_or g.args.directory.now (2 * partitions m) 0) c.bottom.ensures
+          ∙ w.trips,
+      c.entries_of-copies.ensures ∙ w.copies,
+    ) in
+    let few : leb most_trips (length trips) ≡ false =
+    let g = c in
+    lt-leb most_trips (length trips) (omega (arith, counted.0, c.if-trips-ge-MOST_TRIPS.false)) in
+    let row_is : c.trip_outcome-row.result ≡ row_tests (scale c.args.ruler) trips c.args.t 0 Accepted =
+    let g = c in
+    let w = in-index in
+    let read = ap (λ (k : ℕ). rows (take (entry_words * k - 0) words.originals)) counted.0 ∙ w.listed in
+    c.trip_outcome-row.ensures ∙ ap (λ (l : List Trip). row_tests (scale g.args.ruler) l g.args.t 0 Accepted) read in
     let row_ok : RowOk (scale c.args.ruler) trips c.args.t = row_taken _ _ _ _ row_is (sym c.is_accepted.ensures ∙ c.if-not-is_accepted.false) in
     let g = c in
     let row = row_ok in
@@ -154,18 +154,18 @@ lacks_room-requires-2 c =
     let words : Index = index c.args.directory.now c.args.originals.now c.args.replicas.now in
     let in-index : Shown (scale c.args.ruler) words = shown _ _ (checked _ _ c.requires.replicas_value) (deep-ruler c.args.ruler c.requires.made) in
     let trips : List Trip = table_of (scale c.args.ruler) words in
-    let counted : (c.trips_of-trips.result ≡ length trips) × (c.entries_of-copies.result ≡ length (entries (scale c.args.ruler) Replicas trips)) = 
-        let g = c in
-        let w = in-index in (
-          c.trips_of-trips.ensures ∙ ap (λ (m : ℕ). get_or g.args.directory.now (2 * partitions m) 0) c.bottom.ensures
-              ∙ w.trips,
-          c.entries_of-copies.ensures ∙ w.copies,
-        ) in
-    let row_is : c.trip_outcome-row.result ≡ row_tests (scale c.args.ruler) trips c.args.t 0 Accepted = 
-        let g = c in
-        let w = in-index in
-        let read = ap (λ (k : ℕ). rows (take (entry_words * k - 0) words.originals)) counted.0 ∙ w.listed in
-        c.trip_outcome-row.ensures ∙ ap (λ (l : List Trip). row_tests (scale g.args.ruler) l g.args.t 0 Accepted) read in
+    let counted : (c.trips_of-trips.result ≡ length trips) × (c.entries_of-copies.result ≡ length (entries (scale c.args.ruler) Replicas trips)) =
+    let g = c in
+    let w = in-index in (
+      c.trips_of-trips.ensures ∙ ap (λ (m : ℕ). get_or g.args.directory.now (2 * partitions m) 0) c.bottom.ensures
+          ∙ w.trips,
+      c.entries_of-copies.ensures ∙ w.copies,
+    ) in
+    let row_is : c.trip_outcome-row.result ≡ row_tests (scale c.args.ruler) trips c.args.t 0 Accepted =
+    let g = c in
+    let w = in-index in
+    let read = ap (λ (k : ℕ). rows (take (entry_words * k - 0) words.originals)) counted.0 ∙ w.listed in
+    c.trip_outcome-row.ensures ∙ ap (λ (l : List Trip). row_tests (scale g.args.ruler) l g.args.t 0 Accepted) read in
     let row_ok : RowOk (scale c.args.ruler) trips c.args.t = row_taken _ _ _ _ row_is (sym c.is_accepted.ensures ∙ c.if-not-is_accepted.false) in
     let g = c in
     record { made = g.requires.made; fits = (row_ok.fits, omega (arith, in-index, counted.1)) }
@@ -176,21 +176,21 @@ returns-then-lacks_room-2 c =
     let words : Index = index c.args.directory.now c.args.originals.now c.args.replicas.now in
     let in-index : Shown (scale c.args.ruler) words = shown _ _ (checked _ _ c.requires.replicas_value) (deep-ruler c.args.ruler c.requires.made) in
     let trips : List Trip = table_of (scale c.args.ruler) words in
-    let counted : (c.trips_of-trips.result ≡ length trips) × (c.entries_of-copies.result ≡ length (entries (scale c.args.ruler) Replicas trips)) = 
-        let g = c in
-        let w = in-index in (
-          c.trips_of-trips.ensures ∙ ap (λ (m : ℕ). get_or g.args.directory.now (2 * partitions m) 0) c.bottom.ensures
-              ∙ w.trips,
-          c.entries_of-copies.ensures ∙ w.copies,
-        ) in
-    let few : leb most_trips (length trips) ≡ false = 
+    let counted : (c.trips_of-trips.result ≡ length trips) × (c.entries_of-copies.result ≡ length (entries (scale c.args.ruler) Replicas trips)) =
     let g = c in
-        lt-leb most_trips (length trips) (omega (arith, counted.0, c.if-trips-ge-MOST_TRIPS.false)) in
-    let row_is : c.trip_outcome-row.result ≡ row_tests (scale c.args.ruler) trips c.args.t 0 Accepted = 
-        let g = c in
-        let w = in-index in
-        let read = ap (λ (k : ℕ). rows (take (entry_words * k - 0) words.originals)) counted.0 ∙ w.listed in
-        c.trip_outcome-row.ensures ∙ ap (λ (l : List Trip). row_tests (scale g.args.ruler) l g.args.t 0 Accepted) read in
+    let w = in-index in (
+      c.trips_of-trips.ensures ∙ ap (λ (m : ℕ). get_or g.args.directory.now (2 * partitions m) 0) c.bottom.ensures
+          ∙ w.trips,
+      c.entries_of-copies.ensures ∙ w.copies,
+    ) in
+    let few : leb most_trips (length trips) ≡ false =
+    let g = c in
+    lt-leb most_trips (length trips) (omega (arith, counted.0, c.if-trips-ge-MOST_TRIPS.false)) in
+    let row_is : c.trip_outcome-row.result ≡ row_tests (scale c.args.ruler) trips c.args.t 0 Accepted =
+    let g = c in
+    let w = in-index in
+    let read = ap (λ (k : ℕ). rows (take (entry_words * k - 0) words.originals)) counted.0 ∙ w.listed in
+    c.trip_outcome-row.ensures ∙ ap (λ (l : List Trip). row_tests (scale g.args.ruler) l g.args.t 0 Accepted) read in
     let row_ok : RowOk (scale c.args.ruler) trips c.args.t = row_taken _ _ _ _ row_is (sym c.is_accepted.ensures ∙ c.if-not-is_accepted.false) in
     let g = c in
     let row = row_ok in
@@ -207,21 +207,21 @@ returns c =
     let words : Index = index c.args.directory.now c.args.originals.now c.args.replicas.now in
     let in-index : Shown (scale c.args.ruler) words = shown _ _ (checked _ _ c.requires.replicas_value) (deep-ruler c.args.ruler c.requires.made) in
     let trips : List Trip = table_of (scale c.args.ruler) words in
-    let counted : (c.trips_of-trips.result ≡ length trips) × (c.entries_of-copies.result ≡ length (entries (scale c.args.ruler) Replicas trips)) = 
-        let g = c in
-        let w = in-index in (
-          c.trips_of-trips.ensures ∙ ap (λ (m : ℕ). get_or g.args.directory.now (2 * partitions m) 0) c.bottom.ensures
-              ∙ w.trips,
-          c.entries_of-copies.ensures ∙ w.copies,
-        ) in
-    let few : leb most_trips (length trips) ≡ false = 
+    let counted : (c.trips_of-trips.result ≡ length trips) × (c.entries_of-copies.result ≡ length (entries (scale c.args.ruler) Replicas trips)) =
     let g = c in
-        lt-leb most_trips (length trips) (omega (arith, counted.0, c.if-trips-ge-MOST_TRIPS.false)) in
-    let row_is : c.trip_outcome-row.result ≡ row_tests (scale c.args.ruler) trips c.args.t 0 Accepted = 
-        let g = c in
-        let w = in-index in
-        let read = ap (λ (k : ℕ). rows (take (entry_words * k - 0) words.originals)) counted.0 ∙ w.listed in
-        c.trip_outcome-row.ensures ∙ ap (λ (l : List Trip). row_tests (scale g.args.ruler) l g.args.t 0 Accepted) read in
+    let w = in-index in (
+      c.trips_of-trips.ensures ∙ ap (λ (m : ℕ). get_or g.args.directory.now (2 * partitions m) 0) c.bottom.ensures
+          ∙ w.trips,
+      c.entries_of-copies.ensures ∙ w.copies,
+    ) in
+    let few : leb most_trips (length trips) ≡ false =
+    let g = c in
+    lt-leb most_trips (length trips) (omega (arith, counted.0, c.if-trips-ge-MOST_TRIPS.false)) in
+    let row_is : c.trip_outcome-row.result ≡ row_tests (scale c.args.ruler) trips c.args.t 0 Accepted =
+    let g = c in
+    let w = in-index in
+    let read = ap (λ (k : ℕ). rows (take (entry_words * k - 0) words.originals)) counted.0 ∙ w.listed in
+    c.trip_outcome-row.ensures ∙ ap (λ (l : List Trip). row_tests (scale g.args.ruler) l g.args.t 0 Accepted) read in
     let row_ok : RowOk (scale c.args.ruler) trips c.args.t = row_taken _ _ _ _ row_is (sym c.is_accepted.ensures ∙ c.if-not-is_accepted.false) in
     let g = c in
     let row = row_ok in

@@ -31,9 +31,9 @@ returns-then-n-k c =
 
 pub returns-then-not-put_in_order : goal.returns-then-not-put_in_order
 returns-then-not-put_in_order c =
-    let whole : of_class c.args.classes c.args.class (rows c.args.part.now) c.loop-k.k ≡ c.gather-g.new.room ++ of_class c.args.classes c.args.class (rows c.args.part.now) c.gather-g.result.next = 
-        let g = c.gather-g.ensures in
-        full-room _ _ _ _ g.there (g.full (omega (arith, length-rows c.args.part.now))) in
+    let whole : of_class c.args.classes c.args.class (rows c.args.part.now) c.loop-k.k ≡ c.gather-g.new.room ++ of_class c.args.classes c.args.class (rows c.args.part.now) c.gather-g.result.next =
+    let g = c.gather-g.ensures in
+    full-room _ _ _ _ g.there (g.full (omega (arith, length-rows c.args.part.now))) in
     let put = c in
     sym (front_stop _ _ _ whole (sym put.put_in_order.ensures.0 ∙ c.if-not-put_in_order.true)) ∙ c.loop-k.invariant.1
 
@@ -47,9 +47,9 @@ none_again-requires c =
 
 pub returns-then-not-none_again : goal.returns-then-not-none_again
 returns-then-not-none_again c =
-    let whole : of_class c.args.classes c.args.class (rows c.args.part.now) c.loop-k.k ≡ c.gather-g.new.room ++ of_class c.args.classes c.args.class (rows c.args.part.now) c.gather-g.result.next = 
-        let g = c.gather-g.ensures in
-        full-room _ _ _ _ g.there (g.full (omega (arith, length-rows c.args.part.now))) in
+    let whole : of_class c.args.classes c.args.class (rows c.args.part.now) c.loop-k.k ≡ c.gather-g.new.room ++ of_class c.args.classes c.args.class (rows c.args.part.now) c.gather-g.result.next =
+    let g = c.gather-g.ensures in
+    full-room _ _ _ _ g.there (g.full (omega (arith, length-rows c.args.part.now))) in
     let put = c in
     let again = sym c.none_again.ensures ∙ c.if-not-none_again.true in
     sym (front_again _ _ _ whole _ put.put_in_order.ensures.1 again) ∙ c.loop-k.invariant.1
@@ -61,9 +61,9 @@ loop-k-smaller c =
 
 pub loop-k-preserved : goal.loop-k-preserved
 loop-k-preserved c =
-    let whole : of_class c.args.classes c.args.class (rows c.args.part.now) c.loop-k.k ≡ c.gather-g.new.room ++ of_class c.args.classes c.args.class (rows c.args.part.now) c.gather-g.result.next = 
-        let g = c.gather-g.ensures in
-        full-room _ _ _ _ g.there (g.full (omega (arith, length-rows c.args.part.now))) in
+    let whole : of_class c.args.classes c.args.class (rows c.args.part.now) c.loop-k.k ≡ c.gather-g.new.room ++ of_class c.args.classes c.args.class (rows c.args.part.now) c.gather-g.result.next =
+    let g = c.gather-g.ensures in
+    full-room _ _ _ _ g.there (g.full (omega (arith, length-rows c.args.part.now))) in
     let put = c in
     let once = sym put.put_in_order.ensures.0 ∙ c.if-not-put_in_order.false in
     let no_more = sym c.none_again.ensures ∙ c.if-not-none_again.false in

@@ -33,17 +33,17 @@ home_level-level-requires c =
 pub at_level-requires : goal.at_level-requires
 at_level-requires c =
     let level-is : let g = c.args in c.home_level-level.result ≡ home_level (scale g.ruler).m ((scale g.ruler).cell g.t.start) ((scale g.ruler).cell g.t.end) (scale g.ruler).m = rw (c.bottom_cell-b.ensures, c.bottom_cell-a.ensures) at c.home_level-level.ensures in
-    let deep : let r = c.args.ruler in (c.home_level-level.result ≤ (scale r).m) × ((scale r).m ≤ deepest) = 
-        let g = c in
-        (rw level-is (level_deep g.args.ruler g.args.t g.requires.made g.requires.fits), deep-ruler g.args.ruler g.requires.made) in
+    let deep : let r = c.args.ruler in (c.home_level-level.result ≤ (scale r).m) × ((scale r).m ≤ deepest) =
+    let g = c in
+    (rw level-is (level_deep g.args.ruler g.args.t g.requires.made g.requires.fits), deep-ruler g.args.ruler g.requires.made) in
     rw c.bottom_cell-b.ensures deep
 
 pub at_level-requires-2 : goal.at_level-requires-2
 at_level-requires-2 c =
     let level-is : let g = c.args in c.home_level-level.result ≡ home_level (scale g.ruler).m ((scale g.ruler).cell g.t.start) ((scale g.ruler).cell g.t.end) (scale g.ruler).m = rw (c.bottom_cell-b.ensures, c.bottom_cell-a.ensures) at c.home_level-level.ensures in
-    let deep : let r = c.args.ruler in (c.home_level-level.result ≤ (scale r).m) × ((scale r).m ≤ deepest) = 
-        let g = c in
-        (rw level-is (level_deep g.args.ruler g.args.t g.requires.made g.requires.fits), deep-ruler g.args.ruler g.requires.made) in
+    let deep : let r = c.args.ruler in (c.home_level-level.result ≤ (scale r).m) × ((scale r).m ≤ deepest) =
+    let g = c in
+    (rw level-is (level_deep g.args.ruler g.args.t g.requires.made g.requires.fits), deep-ruler g.args.ruler g.requires.made) in
     rw c.bottom_cell-a.ensures deep
 
 pub same-ends-requires : goal.same-ends-requires
@@ -52,9 +52,9 @@ same-ends-requires c = rw (c.at_level-2.ensures, c.at_level.ensures) refl
 pub rank_at-requires : goal.rank_at-requires
 rank_at-requires c =
     let level-is : let g = c.args in c.home_level-level.result ≡ home_level (scale g.ruler).m ((scale g.ruler).cell g.t.start) ((scale g.ruler).cell g.t.end) (scale g.ruler).m = rw (c.bottom_cell-b.ensures, c.bottom_cell-a.ensures) at c.home_level-level.ensures in
-    let deep : let r = c.args.ruler in (c.home_level-level.result ≤ (scale r).m) × ((scale r).m ≤ deepest) = 
-        let g = c in
-        (rw level-is (level_deep g.args.ruler g.args.t g.requires.made g.requires.fits), deep-ruler g.args.ruler g.requires.made) in
+    let deep : let r = c.args.ruler in (c.home_level-level.result ≤ (scale r).m) × ((scale r).m ≤ deepest) =
+    let g = c in
+    (rw level-is (level_deep g.args.ruler g.args.t g.requires.made g.requires.fits), deep-ruler g.args.ruler g.requires.made) in
     let k = c in
     let g = k in
     let d = deep in
@@ -63,9 +63,9 @@ rank_at-requires c =
 pub slot_of-requires : goal.slot_of-requires
 slot_of-requires c =
     let level-is : let g = c.args in c.home_level-level.result ≡ home_level (scale g.ruler).m ((scale g.ruler).cell g.t.start) ((scale g.ruler).cell g.t.end) (scale g.ruler).m = rw (c.bottom_cell-b.ensures, c.bottom_cell-a.ensures) at c.home_level-level.ensures in
-    let deep : let r = c.args.ruler in (c.home_level-level.result ≤ (scale r).m) × ((scale r).m ≤ deepest) = 
-        let g = c in
-        (rw level-is (level_deep g.args.ruler g.args.t g.requires.made g.requires.fits), deep-ruler g.args.ruler g.requires.made) in
+    let deep : let r = c.args.ruler in (c.home_level-level.result ≤ (scale r).m) × ((scale r).m ≤ deepest) =
+    let g = c in
+    (rw level-is (level_deep g.args.ruler g.args.t g.requires.made g.requires.fits), deep-ruler g.args.ruler g.requires.made) in
     let k = c in
     let g = k in
     let d = deep in

@@ -30,8 +30,8 @@ loop-i-preserved c =
     let test = is_sought g.sought g.sure in
     let l = g.part.now in
     elim c.if-has.branch [
-      then-has w ↦ let e : test (trip_at l i) ≡ true = cc in (omega arith, omega (arith, count_hit test l i e))
-    | else-has w ↦ let e : test (trip_at l i) ≡ false = cc in (omega arith, omega (arith, count_miss test l i e))
+      | then-has w ↦ let e : test (trip_at l i) ≡ true = cc in (omega arith, omega (arith, count_hit test l i e))
+      | else-has w ↦ let e : test (trip_at l i) ≡ false = cc in (omega arith, omega (arith, count_miss test l i e))
     ]
 
 pub returns : goal.returns
