@@ -36,7 +36,6 @@ use Rattle.plan.specs.Sought.{is_sought, sought_by}
 use Rattle.plan.specs.Plan.{plan_for}
 use Rattle.plan.proofs.Inside.{inside-related}
 use Rattle.plan.proofs.SoughtMatches.{sought_matches, sought_inside}
-use Rattle.plan.proofs.Looked.{walk}
 use Rattle.plan.proofs.Walked.{Suits, walk_in, in_walk, walk_distinct}
 use Rattle.plan.proofs.Suited.{plan_for_lem, in_range, suits_plan, quick_right}
 use Rattle.walk.specs.Levels.{LevelsThere, walk_matches}

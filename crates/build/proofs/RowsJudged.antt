@@ -23,7 +23,7 @@ use Rattle.layout.specs.declared.Outcome.TheVariants.{Accepted}
 use Rattle.layout.specs.Words.{entry_words, trip_at, rows, partitions_holding, entries}
 use Rattle.layout.specs.Refusals.{has_id, no_room, row_tests, first_bad_row}
 use Rattle.layout.proofs.RowOrder.{OtherId, Distinct, length-same}
-use Rattle.layout.proofs.Rows.{length-rows, get_d_rows}
+use Rattle.layout.proofs.Rows.{length-rows, get_or_rows}
 use Rattle.layout.proofs.Chains.{to_has_id}
 use Rattle.layout.proofs.SlotMembers.{of_originals_lem, to_originals, originals_distinct}
 use Rattle.layout.proofs.RulerCells.{fair_ruler}
@@ -60,8 +60,8 @@ before-none table i x h e differ =
     let d = of_ids_differ (rows table) (to_T differ) in
     of_not_T _ (to_has_id x (rows_back table i) (λ u m q.
     let w = of_back table i u m in
-    let there-is : get_or (rows table) w.0 no_trip ≡ u = get_d_rows table w.0 no_trip (omega (arith, w.1)) ∙ sym w.2 in
-    let here-is : get_or (rows table) i no_trip ≡ trip_at table i = get_d_rows table i no_trip h in
+    let there-is : get_or (rows table) w.0 no_trip ≡ u = get_or_rows table w.0 no_trip (omega (arith, w.1)) ∙ sym w.2 in
+    let here-is : get_or (rows table) i no_trip ≡ trip_at table i = get_or_rows table i no_trip h in
     distinct_at d w.0 i w.1 (rw length-rows h)
     (ap (λ (t : Trip). t.id) there-is ∙ q ∙ e ∙ sym (ap (λ (t : Trip). t.id) here-is))))
 
@@ -75,7 +75,7 @@ unfolding first_bad_row
 rows_turn s table i h =
     let t = trip_at table i in
     let split : drop i (rows table) ≡ t ∷ drop (suc i) (rows table) =
-    drop-cons (rows table) i no_trip (rw length-rows h) ∙ ap (λ (u : Trip). u ∷ drop (suc i) (rows table)) (get_d_rows table i no_trip h) in
+    drop-cons (rows table) i no_trip (rw length-rows h) ∙ ap (λ (u : Trip). u ∷ drop (suc i) (rows table)) (get_or_rows table i no_trip h) in
     rw (add-one i)
     (ap (λ (x : List Trip). first_bad_row s i (rows_back table i) x Accepted) split
     ∙ row_then s (rows_back table i) t i (first_bad_row s (suc i) (t ∷ rows_back table i) (drop (suc i) (rows table)) Accepted))
@@ -94,7 +94,7 @@ unfolding sum_over
 sum_turn f table i sum h =
     let split : drop i (rows table) ≡ trip_at table i ∷ drop (i + 1) (rows table) =
     rw (add-one i) (drop-cons (rows table) i no_trip (rw length-rows h)
-    ∙ ap (λ (u : Trip). u ∷ drop (suc i) (rows table)) (get_d_rows table i no_trip h)) in
+    ∙ ap (λ (u : Trip). u ∷ drop (suc i) (rows table)) (get_or_rows table i no_trip h)) in
     rw split (omega arith)
 
 pub sum_end : (f : Trip → ℕ) (table : List ℕ) (i : ℕ) → length table / entry_words ≤ i → sum_over f (drop i (rows table)) ≡ 0

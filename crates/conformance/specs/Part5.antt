@@ -1,7 +1,7 @@
 -- Calls and their answers, made of tests/conformance/vectors.txt by tests/conformance/to-antt.
 use Rattle.std.specs.Prelude.{List, [], ◌∷◌}
 use Rattle.ruler.specs.declared.Numbers.TheVariants.{Bits, Spread}
-use Rattle.conformance.specs.Calls.{Case, case, build, check, add, remove, ask, run, census}
+use Rattle.conformance.specs.Calls.{Case, case, build, check, remove, ask, run, census}
 
 unfoldable pub cases : List Case
 cases =

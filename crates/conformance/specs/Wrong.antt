@@ -1,5 +1,5 @@
 -- The cases whose answer is not the definitions'. To say `unfolding wrong` is enough to compute it: the one long line stands here.
-use Rattle.std.specs.Prelude.{cond, not, List, [], ◌∷◌}
+use Rattle.std.specs.Prelude.{cond, List, [], ◌∷◌}
 use Rattle.conformance.specs.Calls.{Case}
 use Rattle.lists.specs.Lists.{every, same, count, padded, keep, insert, sort, joined, up_to, over}
 use Rattle.ruler.specs.Ruler.{in_bounds, scale_of, cell_up, judge}

@@ -7,7 +7,7 @@ use Prim.Native.Nat.{ℕ, ◌*◌, ◌^◌, ◌≤◌, ◌<◌}
 use lib.ListN.{length, get_or}
 use Rattle.lists.specs.Lists.{cons_if, up_to}
 use Rattle.lists.proofs.Padded.{padded-length}
-use Rattle.lists.proofs.Upto.{length-up_to, get_d_up_to}
+use Rattle.lists.proofs.Upto.{length-up_to, get_or_up_to}
 use Rattle.lists.proofs.Halving.{in_order}
 use Rattle.ruler.specs.Ruler.{Scale}
 use Rattle.trip.specs.declared.Trip.{Trip}
@@ -84,7 +84,7 @@ module _ (s : Scale) (half : Half) (x : Index) (t : Trip) (ts : List Trip) where
 
       -- the slot of spot j is still that of the table
       pub unchanged : get_or (slots_after j) (get_or (slots_of_trip s half t) j 0) [] ≡ slot s half (table_of s x) (get_or (slots_of_trip s half t) j 0)
-      unchanged = get_d_up_to _ (2 * partitions s.m) _ [] inside ∙ halfway_here _ _ _ _ spots j h
+      unchanged = get_or_up_to _ (2 * partitions s.m) _ [] inside ∙ halfway_here _ _ _ _ spots j h
 
       -- and one of the trip's
       pub belongs : in_slot s half (get_or (slots_of_trip s half t) j 0) t ≡ true

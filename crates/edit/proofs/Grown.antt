@@ -11,7 +11,6 @@ use Rattle.ruler.specs.Ruler.{Scale}
 use Rattle.trip.specs.declared.Trip.{Trip}
 use Rattle.layout.specs.declared.Half.{Half}
 use Rattle.layout.specs.Words.{partitions, slot, entries_before, entries, Index, subdivision_at}
-use Rattle.layout.specs.Words as laid
 use Rattle.layout.specs.Refusals.{table_of}
 use Rattle.store.specs.TripWalk.{slots_of_trip}
 use Rattle.layout.proofs.Rows.{words_le, words-add}

@@ -19,7 +19,7 @@ use Rattle.layout.specs.Words.{entry_words, trip_at, words, rows, partitions, ha
 use Rattle.layout.specs.Words as laid
 use Rattle.layout.specs.Refusals.{has_id, table_of}
 use Rattle.layout.specs.Calls.{index}
-use Rattle.layout.proofs.Rows.{words-length, rows_words, get_d_rows}
+use Rattle.layout.proofs.Rows.{words-length, rows_words, get_or_rows}
 use Rattle.layout.proofs.Indexes.{Indexed, directory_half-length, table_of_layout}
 use Rattle.layout.proofs.ByDirectory.{directory_are, originals_are, replicas_are, directory_long, originals_laid, replicas_laid}
 use Rattle.layout.proofs.MostEntries.{entries_most}
@@ -64,7 +64,7 @@ place_id i (t ∷ ts) h = go (eqb t.id i) refl h (place_id i ts)
 -- the id of a row
 pub row_id : (part : List ℕ) (k : ℕ) → k < length part / entry_words → (get_or (rows part) k no_trip).id ≡ get_or part (entry_words * k) 0
 unfolding trip_at
-row_id part k h = ap (λ (t : Trip). t.id) (get_d_rows part k no_trip h)
+row_id part k h = ap (λ (t : Trip). t.id) (get_or_rows part k no_trip h)
 
 -- the search: k are passed, and none has the id
 pub search_hit : (i k : ℕ) (ts : List Trip) → k < length ts → place_of_id i ts ≡ k + place_of_id i (drop k ts)

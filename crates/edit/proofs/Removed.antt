@@ -17,7 +17,7 @@ use Rattle.layout.specs.declared.Outcome.TheVariants.{Accepted, Refused}
 use Rattle.layout.specs.Words.{entry_words, trip_at, rows, partitions, Index}
 use Rattle.layout.specs.Refusals.{is_accepted, refuse, table_of, remove_outcome, check_outcome}
 use Rattle.layout.specs.Calls.{after, remove_of}
-use Rattle.layout.proofs.Rows.{get_d_rows}
+use Rattle.layout.proofs.Rows.{get_or_rows}
 use Rattle.store.specs.Ordered.{no_trip}
 use Rattle.edit.specs.Search.{place_of_id}
 use Rattle.edit.proofs.IndexRead.{Shown, has_place, place_id}
@@ -35,7 +35,7 @@ table_at : (s : Scale) (x : Index) (i : ℕ) → i < length (table_of s x) → i
 unfolding table_of
 table_at s x i h k =
     let n = get_or x.directory (2 * partitions s.m) 0 in
-    sym (get_or-take n (rows x.originals) i no_trip (short n (rows x.originals) i h) ∙ get_d_rows x.originals i no_trip k)
+    sym (get_or-take n (rows x.originals) i no_trip (short n (rows x.originals) i h) ∙ get_or_rows x.originals i no_trip k)
 
 -- what a removal knows of the trip
 pub record Found (s : Scale) (x : Index) (i : ℕ) (t : Trip) : Type 0 where

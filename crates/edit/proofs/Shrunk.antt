@@ -7,13 +7,11 @@ use Rattle.ruler.specs.Ruler.{Scale}
 use Rattle.trip.specs.declared.Trip.{Trip}
 use Rattle.layout.specs.declared.Half.{Half}
 use Rattle.layout.specs.Words.{slot, Index, subdivision_at}
-use Rattle.layout.specs.Words as laid
 use Rattle.layout.specs.Refusals.{table_of}
 use Rattle.layout.specs.Calls.{without}
 use Rattle.store.specs.TripWalk.{slots_of_trip}
 use Rattle.layout.proofs.RowOrder.{Distinct, slot_sorted, slot_distinct}
 use Rattle.layout.proofs.EditsBuild.{Removable, of_remove}
-use Rattle.store.proofs.TripWalk.{those}
 use Rattle.layout.proofs.SlotEdited.{slot-without, slot_has, slot-same-removed}
 use Rattle.store.specs.Slots.{removed, removed_in, Holds}
 use Rattle.store.specs.Ordered.{preceding}

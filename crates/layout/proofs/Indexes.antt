@@ -13,7 +13,7 @@ use Rattle.lists.proofs.Tests.{of_and, to_and}
 use Rattle.lists.proofs.Members.{In}
 use Rattle.lists.proofs.Padded.{padded-length}
 use Rattle.lists.proofs.Same.{same_eq, same_refl}
-use Rattle.lists.proofs.Upto.{length-up_to, get_d_up_to}
+use Rattle.lists.proofs.Upto.{length-up_to, get_or_up_to}
 use Rattle.ruler.specs.declared.Numbers.{Numbers}
 use Rattle.ruler.specs.Ruler.{Scale, scale_of}
 use Rattle.ruler.proofs.Fair.{Fair, scale-good, fair}
@@ -52,7 +52,7 @@ layout-lengths s ts n d r =
 pub half_word : (s : Scale) (h : Half) (ts : List Trip) (k : ℕ) → k ≤ 2 * partitions s.m → get_or (directory_half s h ts) k 0
     ≡ length (entries_before s h ts k)
 unfolding directory_half half_length
-half_word s h ts k l = get_d_up_to (λ j. length (entries_before s h ts j)) (2 * partitions s.m + 1) k 0 (omega arith)
+half_word s h ts k l = get_or_up_to (λ j. length (entries_before s h ts j)) (2 * partitions s.m + 1) k 0 (omega arith)
 
 pub last_word : (s : Scale) (h : Half) (ts : List Trip) → get_or (directory_half s h ts) (2 * partitions s.m) 0 ≡ length (entries s h ts)
 unfolding entries

@@ -7,7 +7,7 @@ use native.Mathlib.Omega.{arith}
 use lib.ListN.{length, take, drop, get_or, length-append, length-drop}
 use lib.Seq.{get_or-append-add, get_or-drop, take_at}
 use Rattle.lists.specs.Lists.{up_to}
-use Rattle.lists.proofs.Upto.{length-up_to, get_d_up_to, up_to_cons, up_to_ext}
+use Rattle.lists.proofs.Upto.{length-up_to, get_or_up_to, up_to_cons, up_to_ext}
 use Rattle.trip.specs.declared.Trip.{Trip}
 use Rattle.layout.specs.Words.{entry_words, trip_words, trip_at, words, rows}
 
@@ -84,9 +84,9 @@ pub length-rows : (l : List ℕ) → length (rows l) ≡ length l / entry_words
 unfolding rows
 length-rows l = length-up_to (trip_at l) (length l / entry_words)
 
-pub get_d_rows : (l : List ℕ) (k : ℕ) (d : Trip) → k < length l / entry_words → get_or (rows l) k d ≡ trip_at l k
+pub get_or_rows : (l : List ℕ) (k : ℕ) (d : Trip) → k < length l / entry_words → get_or (rows l) k d ≡ trip_at l k
 unfolding rows
-get_d_rows l k d h = get_d_up_to (trip_at l) (length l / entry_words) k d h
+get_or_rows l k d h = get_or_up_to (trip_at l) (length l / entry_words) k d h
 
 pub rows_cons : (t : Trip) (l : List ℕ) → rows (trip_words t ++ l) ≡ t ∷ rows l
 unfolding rows

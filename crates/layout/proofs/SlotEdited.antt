@@ -14,7 +14,6 @@ use Rattle.lists.proofs.Members.{length-sort}
 use Rattle.ruler.specs.Ruler.{Scale}
 use Rattle.trip.specs.declared.Trip.{Trip}
 use Rattle.layout.specs.declared.Half.{Half}
-use Rattle.layout.specs.Stored.{belongs}
 use Rattle.layout.specs.Words.{order, level_of, place_of, slot_trips, subdivision_at, slot}
 use Rattle.layout.specs.Calls.{without}
 use Rattle.layout.proofs.RowOrder.{OtherId, Distinct}

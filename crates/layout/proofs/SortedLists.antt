@@ -9,7 +9,7 @@ use mathlib.Core.List.{List, [], ◌∷◌, map, Memᴰ as Mem}
 use Prim.Native.Nat.{ℕ, ◌*◌, ◌/◌, ◌≤◌}
 use lib.ListN.{length}
 use lib.Dec.{ltb, eqb}
-use Rattle.lists.specs.Lists.{cons_if, keep, insert, sort, ascending}
+use Rattle.lists.specs.Lists.{cons_if, keep, insert, sort}
 use Rattle.lists.proofs.Joined.{joined_le}
 use Rattle.lists.proofs.Members.{In, none, more, keep-length, of_keep, to_keep, keep_in, of_sort, to_sort, pairs_keep}
 use Rattle.lists.proofs.Sorting.{Sorted, Differ, below, differ-apart, unique, sorted_sort, ascending-below, ascending-same}

@@ -8,7 +8,7 @@ use native.Mathlib.Numerals.{add-one}
 use lib.ListN.{get_or, set, replicate, length-set, replicate-append-replicate}
 use lib.Seq.{ext_get_or, get_or-set_same, get_or-set_other}
 use Rattle.lists.specs.Lists.{up_to}
-use Rattle.lists.proofs.Upto.{length-up_to, get_d_up_to}
+use Rattle.lists.proofs.Upto.{length-up_to, get_or_up_to}
 
 module _ {A : Type 0} where
   -- g is f, but for x at j
@@ -19,8 +19,8 @@ module _ {A : Type 0} where
       go k kn (ℕ_discrete k j))
     where
       go : (k : ℕ) → k < n → Dec (k ≡ j) → get_or (set (up_to f n) j x) k x ≡ get_or (up_to g n) k x
-      go k kn (yes q) = cc (get_d_up_to g n k x kn, e, get_or-set_same (up_to f n) j x x (rw length-up_to h))
-      go k kn (no q) = get_or-set_other (up_to f n) j k x x q ∙ get_d_up_to f n k x kn ∙ sym (get_d_up_to g n k x kn ∙ other k kn q)
+      go k kn (yes q) = cc (get_or_up_to g n k x kn, e, get_or-set_same (up_to f n) j x x (rw length-up_to h))
+      go k kn (no q) = get_or-set_other (up_to f n) j k x x q ∙ get_or_up_to f n k x kn ∙ sym (get_or_up_to g n k x kn ∙ other k kn q)
 
   pub up_to-same : (x : A) (n : ℕ) → up_to (λ k. x) n ≡ replicate n x
   unfolding up_to

@@ -18,10 +18,10 @@ module _ {A : Type 0} where
   length-up_to f zero = refl
   length-up_to f (suc n) = rw (length-append, length-up_to f n) (omega arith)
 
-  pub get_d_up_to : (f : ℕ → A) (n i : ℕ) (d : A) → i < n → get_or (up_to f n) i d ≡ f i
+  pub get_or_up_to : (f : ℕ → A) (n i : ℕ) (d : A) → i < n → get_or (up_to f n) i d ≡ f i
   unfolding up_to
-  get_d_up_to f zero i d h = absurd (omega arith)
-  get_d_up_to f (suc n) i d h = go (dec_lt i n) (get_d_up_to f n i d)
+  get_or_up_to f zero i d h = absurd (omega arith)
+  get_or_up_to f (suc n) i d h = go (dec_lt i n) (get_or_up_to f n i d)
     where
       go : Dec (i < n) → (i < n → get_or (up_to f n) i d ≡ f i) → get_or (up_to f (suc n)) i d ≡ f i
       go (yes l) ih = get_or-append (up_to f n) (f n ∷ []) d i (rw length-up_to l) ∙ ih l
@@ -61,4 +61,4 @@ every_at (b ∷ l) zero t = (of_and b (every l) t).0
 every_at (b ∷ l) (suc k) t = every_at l k (of_and b (every l) t).1
 
 pub every-up_to : (f : ℕ → Bool) (n k : ℕ) → k < n → T (every (up_to f n)) → T (f k)
-every-up_to f n k h t = rw (get_d_up_to f n k true h) at (every_at (up_to f n) k t)
+every-up_to f n k h t = rw (get_or_up_to f n k true h) at (every_at (up_to f n) k t)

@@ -17,7 +17,7 @@ use Rattle.lists.specs.Lists.{insert, sort, ascending, up_to}
 use Rattle.lists.proofs.Tests.{of_and, to_and, to_T, of_T}
 use Rattle.lists.proofs.Members.{none, more, to_insert, to_sort}
 use Rattle.lists.proofs.Sorting.{Sorted, Differ, below, differ-apart, ascending-below, sorted_sort}
-use Rattle.lists.proofs.Upto.{length-up_to, get_d_up_to}
+use Rattle.lists.proofs.Upto.{length-up_to, get_or_up_to}
 use Rattle.trip.specs.declared.Trip.{Trip}
 use Rattle.layout.specs.Words.{entry_words, rows}
 use Rattle.layout.proofs.RowOrder.{Distinct}
@@ -67,7 +67,7 @@ every_word l = ext_get_or 0 (up_to f (length l / 1)) l long same
     long = length-up_to f (length l / 1) ∙ div-one (length l)
 
     same : (i : ℕ) → i < length (up_to f (length l / 1)) → get_or (up_to f (length l / 1)) i 0 ≡ get_or l i 0
-    same i h = get_d_up_to f (length l / 1) i 0 (omega (arith, length-up_to f (length l / 1))) ∙ ap (λ (j : ℕ). get_or l j 0) (one-mul i)
+    same i h = get_or_up_to f (length l / 1) i 0 (omega (arith, length-up_to f (length l / 1))) ∙ ap (λ (j : ℕ). get_or l j 0) (one-mul i)
 
 -- an entry at a time they are the ids
 pub every_id : (l : List ℕ) → every_step entry_words l ≡ ids (rows l)
@@ -98,7 +98,7 @@ module _ (step : ℕ) (l : List ℕ) where
 
   at : (i : ℕ) → i < length l / step → get_or (every_step step l) i 0 ≡ get_or l (step * i) 0
   unfolding every_step
-  at i h = get_d_up_to (λ (k : ℕ). get_or l (step * k) 0) (length l / step) i 0 h
+  at i h = get_or_up_to (λ (k : ℕ). get_or l (step * k) 0) (length l / step) i 0 h
 
   pub steps_none : length l / step ≡ 0 → climbs (every_step step l) ≡ true
   steps_none h = climbs-none (every_step step l) (long ∙ h)

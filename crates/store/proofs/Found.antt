@@ -18,7 +18,7 @@ use Rattle.layout.specs.Words.{entry_words, trip_at, order, rows}
 use Rattle.layout.specs.Calls.{without}
 use Rattle.layout.proofs.RowOrder.{OtherId, Distinct, slot-order, order-apart}
 use Rattle.layout.proofs.SlotMembers.{same_id}
-use Rattle.layout.proofs.Rows.{length-rows, get_d_rows}
+use Rattle.layout.proofs.Rows.{length-rows, get_or_rows}
 use Rattle.store.specs.Slots.{inserted, removed}
 use Rattle.store.specs.Ordered.{preceding, no_trip}
 
@@ -34,7 +34,7 @@ module _ (part : List ℕ) (d : Subdivision) (t : Trip) (s : InOrder (order d) n
 
   module _ (low high mid : ℕ) (u : Trip) (w : Meeting part d t low high) (a : low ≤ mid) (b : mid < high) (read : u ≡ trip_at part mid) where
     here : get_or (rows part) mid no_trip ≡ u
-    here = get_d_rows part mid no_trip (rw length-rows at inside) ∙ sym read
+    here = get_or_rows part mid no_trip (rw length-rows at inside) ∙ sym read
       where
         inside : mid < length (rows part)
         inside = omega (arith, w.inside)

@@ -9,7 +9,7 @@ use native.Mathlib.Numerals.{add-one}
 use native.Mathlib.Omega.{arith}
 use lib.ListN.{length, get_or, set, replicate, length-append, length-replicate}
 use Rattle.lists.specs.Lists.{joined, up_to, padded}
-use Rattle.lists.proofs.Upto.{get_d_up_to}
+use Rattle.lists.proofs.Upto.{get_or_up_to}
 use Rattle.lists.proofs.Replaced.{up_to-set}
 use Rattle.ruler.specs.Ruler.{Scale}
 use Rattle.trip.specs.declared.Trip.{Trip}
@@ -43,7 +43,7 @@ starts-up_to f (suc n) =
 -- one slot changed by c, and the others as they are: an entry put in (c = inserted p t), taken out (removed p), or a slot put in order
 pub changed_slot : (c : List Trip → List Trip) (f g : ℕ → List Trip) (n s : ℕ) → s < n → g s ≡ c (f s) → ((k : ℕ) → k < n → k ≢ s → g k ≡ f k)
     → set (up_to f n) s (c (get_or (up_to f n) s [])) ≡ up_to g n
-changed_slot c f g n s h e other = up_to-set f g n s (c (get_or (up_to f n) s [])) h (e ∙ ap c (sym (get_d_up_to f n s [] h))) other
+changed_slot c f g n s h e other = up_to-set f g n s (c (get_or (up_to f n) s [])) h (e ∙ ap c (sym (get_or_up_to f n s [] h))) other
 
 -- ---- the slots of a table
 

@@ -9,7 +9,7 @@ use lib.ListN.{length, get_or}
 use Rattle.lists.specs.Sifting.{InOrder}
 use Rattle.lists.proofs.Tests.{to_T}
 use Rattle.lists.proofs.Sorting.{Sorted}
-use Rattle.lists.proofs.Upto.{length-up_to, get_d_up_to}
+use Rattle.lists.proofs.Upto.{length-up_to, get_or_up_to}
 use Rattle.lists.proofs.Halving.{at_mem, mem_at, in_order}
 use Rattle.ruler.specs.Ruler.{Scale}
 use Rattle.trip.specs.declared.Trip.{Trip}
@@ -19,7 +19,7 @@ use Rattle.layout.specs.declared.Half.TheVariants.{Originals}
 use Rattle.layout.specs.declared.Subdivision.TheVariants.{OIn}
 use Rattle.layout.specs.Stored.{subdivision_of}
 use Rattle.layout.specs.Words.{entry_words, trip_at, rows, order}
-use Rattle.layout.proofs.Rows.{length-rows, get_d_rows}
+use Rattle.layout.proofs.Rows.{length-rows, get_or_rows}
 use Rattle.layout.proofs.RowOrder.{slot-order}
 use Rattle.store.specs.Ordered.{no_trip, key_place, key_by}
 use Rattle.store.specs.Entries.{word_end}
@@ -52,7 +52,7 @@ module _ (part : List ℕ) (t : Trip) (key : ℕ) (e : key ≡ key_by (key_place
       let n = length part / entry_words in
       let k = low + width / 2 in
       let inside = w.inside in
-      let at : get_or l k 0 ≡ there = get_d_up_to (λ j. key_by (key_place OIn) (trip_at part j)) n k 0 (omega (arith, rw length-up_to at inside)) ∙ sym f in
+      let at : get_or l k 0 ≡ there = get_or_up_to (λ j. key_by (key_place OIn) (trip_at part j)) n k 0 (omega (arith, rw length-up_to at inside)) ∙ sym f in
       let step = narrow_step key l low width w (keys_climb OIn part small in_rows) h in
       subst (λ (x : ℕ). Narrowed key l x (width - width / 2))
       (ap (λ (x : ℕ). low + cond (leb x key) (width / 2) 0) at ∙ either (leb there key) low (width / 2) ∙ sym g) step
@@ -67,15 +67,15 @@ module _ (part : List ℕ) (t : Trip) (key : ℕ) (e : key ≡ key_by (key_place
       let l : low < n = omega (arith, w.some, rw length-up_to at inside) in
       let m : Mem (get_or (rows part) low no_trip) (rows part) = at_mem no_trip (rows part) low (rw length-rows l) in
       bool_ext (same_trip t (trip_at part low)) (some (same_trip t) (rows part))
-      (to_some (same_trip t) (rows part) (trip_at part low) (rw (get_d_rows part low no_trip l) at m))
+      (to_some (same_trip t) (rows part) (trip_at part low) (rw (get_or_rows part low no_trip l) at m))
       (λ u.
       let v = of_some (same_trip t) (rows part) u in
       let m : Mem t (rows part) = rw (of_same t v.0 v.2) v.1 in
       let at = mem_at no_trip t m in
       let j = at.0 in
       let g : j < n = rw length-rows at at.1 in
-      let there : trip_at part j ≡ t = sym (get_d_rows part j no_trip g) ∙ at.2 in
-      let only = w.only j (rw length-up_to g) (get_d_up_to keys n j 0 g ∙ ap (key_by (key_place OIn)) there ∙ sym e) in
+      let there : trip_at part j ≡ t = sym (get_or_rows part j no_trip g) ∙ at.2 in
+      let only = w.only j (rw length-up_to g) (get_or_up_to keys n j 0 g ∙ ap (key_by (key_place OIn)) there ∙ sym e) in
       let q : j ≡ low = omega (arith, only) in
       subst (λ (x : Trip). T (same_trip t x)) (sym (ap (trip_at part) (sym q) ∙ there)) (same_refl t))
 

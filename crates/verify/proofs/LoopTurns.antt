@@ -17,7 +17,7 @@ use Rattle.lists.proofs.Halving.{at_mem}
 use Rattle.trip.specs.declared.Trip.{Trip}
 use Rattle.layout.specs.declared.Subdivision.{Subdivision}
 use Rattle.layout.specs.Words.{entry_words, trip_at, rows, order}
-use Rattle.layout.proofs.Rows.{length-rows, get_d_rows}
+use Rattle.layout.proofs.Rows.{length-rows, get_or_rows}
 use Rattle.store.specs.Entries.{word_end}
 use Rattle.store.specs.Ordered.{no_trip, key_place, key_by}
 use Rattle.store.proofs.SlotKeys.{key_below}
@@ -62,7 +62,7 @@ module _ (xs : List ℕ) (i : ℕ) where
 module _ (part : List ℕ) where
   row_left : (k : ℕ) → k < length part / entry_words → drop k (rows part) ≡ trip_at part k ∷ drop (k + 1) (rows part)
   row_left k h =
-      let here : get_or (rows part) k (trip_at part k) ≡ trip_at part k = get_d_rows part k (trip_at part k) h in
+      let here : get_or (rows part) k (trip_at part k) ≡ trip_at part k = get_or_rows part k (trip_at part k) h in
       drop-cons (rows part) k (trip_at part k) (rw length-rows h) ∙ rw (here, add-one)
 
   pub row_none : (k : ℕ) → length part / entry_words ≤ k → drop k (rows part) ≡ []
@@ -71,7 +71,7 @@ module _ (part : List ℕ) where
   -- one of rows that all pass
   pub each_row : (p : Trip → Bool) → each p (rows part) ≡ true → (k : ℕ) → k < length part / entry_words → p (trip_at part k) ≡ true
   each_row p e k h =
-      of_T _ (rw (get_d_rows part k no_trip h) at (of_each p (rows part) (to_T e) (get_or (rows part) k no_trip) (at_mem no_trip (rows part) k (rw length-rows h))))
+      of_T _ (rw (get_or_rows part k no_trip h) at (of_each p (rows part) (to_T e) (get_or (rows part) k no_trip) (at_mem no_trip (rows part) k (rw length-rows h))))
 
   module _ (p : Trip → Bool) (k : ℕ) where
     pub each_more : k < length part / entry_words → p (trip_at part k) ≡ true → each p (drop (k + 1) (rows part)) ≡ each p (drop k (rows part))

@@ -13,7 +13,7 @@ use lib.Seq.{length-take-le, drop_at, take-add, ext_get_or}
 use Rattle.lists.specs.Lists.{joined, up_to, padded}
 use Rattle.lists.proofs.Tests.{of_and, to_and, to_T}
 use Rattle.lists.proofs.Joined.{length_more}
-use Rattle.lists.proofs.Upto.{length-up_to, get_d_up_to}
+use Rattle.lists.proofs.Upto.{length-up_to, get_or_up_to}
 use Rattle.trip.specs.declared.Trip.{Trip}
 use Rattle.layout.specs.Words.{entry_words, words, rows}
 use Rattle.layout.proofs.Rows.{rows_words, words-rows, words_append, words-length, words_le}
@@ -139,7 +139,7 @@ module _ (dir arena : List ℕ) (n : ℕ) (c : Cut dir arena n) where
   unfolding padded
   cut_laid l = record {
     counts = ext_get_or 0 dir (up_to (λ k. length (joined (slot_at dir arena) k)) (n + 1)) (l ∙ sym (length-up_to _ (n + 1)))
-        (λ i h. sym (get_d_up_to (λ k. length (joined (slot_at dir arena) k)) (n + 1) i 0 (omega arith) ∙ count_cut i (omega arith)));
+        (λ i h. sym (get_or_up_to (λ k. length (joined (slot_at dir arena) k)) (n + 1) i 0 (omega arith) ∙ count_cut i (omega arith)));
     stored =
         let u = entry_words * get_or dir n 0 in
         let e : words (joined (slot_at dir arena) n) ≡ take u arena = words_cut n (omega arith) in
@@ -168,7 +168,7 @@ module _ (dir arena : List ℕ) (f : ℕ → List Trip) (n : ℕ) (w : Laid dir 
   laid_length = ap length w.counts ∙ length-up_to _ (n + 1)
 
   laid_count : (k : ℕ) → k ≤ n → get_or dir k 0 ≡ length (joined f k)
-  laid_count k h = ap (λ (d : List ℕ). get_or d k 0) w.counts ∙ get_d_up_to (λ k. length (joined f k)) (n + 1) k 0 (omega arith)
+  laid_count k h = ap (λ (d : List ℕ). get_or d k 0) w.counts ∙ get_or_up_to (λ k. length (joined f k)) (n + 1) k 0 (omega arith)
 
   pub laid_cut : Cut dir arena n
   unfolding padded

@@ -5,7 +5,7 @@ use mathlib.Core.List.{List, [], ◌∷◌}
 use Prim.Native.Nat.{ℕ, ◌+◌, ◌/◌, ◌≤◌, ◌<◌}
 use native.Mathlib.Omega.{arith}
 use lib.ListN.{length, set, length-append, length-set}
-use Rattle.lists.specs.Lists.{keep, up_to, over}
+use Rattle.lists.specs.Lists.{keep, up_to}
 use Rattle.lists.proofs.Kept.{kept, kept_hit, kept_miss, kept_le}
 use Rattle.trip.specs.declared.Trip.{Trip}
 use Rattle.layout.specs.Words.{entry_words, trip_at, rows}

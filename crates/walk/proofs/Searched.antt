@@ -17,7 +17,7 @@ use Rattle.trip.specs.declared.Trip.{Trip}
 use Rattle.layout.specs.declared.Half.TheVariants.{Originals, Replicas}
 use Rattle.layout.specs.Stored.{subdivision_of}
 use Rattle.layout.specs.Words.{entry_words, trip_at, words, rows, by_start, by_end, order}
-use Rattle.layout.proofs.Rows.{length-rows, get_d_rows, trip_at-drop, whole, whole-rest, rows_words, words-rows}
+use Rattle.layout.proofs.Rows.{length-rows, get_or_rows, trip_at-drop, whole, whole-rest, rows_words, words-rows}
 use Rattle.layout.proofs.RowParts.{rows_split, rows_take, front_length}
 use Rattle.plan.specs.declared.bounds.Bounds.{Bounds}
 use Rattle.plan.specs.declared.looks.Order.{Order}
@@ -54,7 +54,7 @@ Meeting ends limit part low high = Between (trip_at part 0) (earlier_than ends l
 
 module _ (ends : Bool) (limit : Time) (part : List ℕ) (rises : Rises ends part) where
   row : (k : ℕ) → k < length part / entry_words → get_or (rows part) k (trip_at part 0) ≡ trip_at part k
-  row k h = get_d_rows part k (trip_at part 0) h
+  row k h = get_or_rows part k (trip_at part 0) h
 
   falls : Falls (trip_at part 0) (earlier_than ends limit) (rows part)
   falls i j h g e =
@@ -117,7 +117,7 @@ module _ (t : Trip → Bool) (part : List ℕ) (lo to : ℕ) (a : lo ≤ to) (b 
       let at : get_or (rows (take (entry_words * lo) part)) j (trip_at part 0) ≡ trip_at part j =
       ap (λ (l : List Trip). get_or l j (trip_at part 0)) (sym (rows_take lo part (omega arith)))
       ∙ get_or-take lo (rows part) j (trip_at part 0) (omega arith)
-      ∙ get_d_rows part j (trip_at part 0) (omega arith)
+      ∙ get_or_rows part j (trip_at part 0) (omega arith)
       in
       rw at (front j (omega arith)))
 
@@ -129,7 +129,7 @@ module _ (t : Trip → Bool) (part : List ℕ) (lo to : ℕ) (a : lo ≤ to) (b 
       in
       keep-none t (trip_at part 0) (rows last) (λ j h.
       let at : get_or (rows last) j (trip_at part 0) ≡ trip_at part (lo + ((to - lo) + j)) =
-      get_d_rows last j (trip_at part 0) (rw length-rows at h) ∙ trip_at-drop (to - lo) later j ∙ trip_at-drop lo part ((to - lo) + j)
+      get_or_rows last j (trip_at part 0) (rw length-rows at h) ∙ trip_at-drop (to - lo) later j ∙ trip_at-drop lo part ((to - lo) + j)
       in
       rw at (rest (lo + ((to - lo) + j)) (omega arith) (omega arith)))
 
@@ -161,7 +161,7 @@ module _ (t : Trip → Bool) (part : List ℕ) (lo to : ℕ) (a : lo ≤ to) (b 
         let at : get_or (rows middle) j (trip_at part 0) ≡ trip_at part (lo + j) =
         ap (λ (l : List Trip). get_or l j (trip_at part 0)) (sym (rows_take (to - lo) later (rw long (omega arith))))
         ∙ get_or-take (to - lo) (rows later) j (trip_at part 0) (omega arith)
-        ∙ get_d_rows later j (trip_at part 0) (rw long (omega arith))
+        ∙ get_or_rows later j (trip_at part 0) (rw long (omega arith))
         ∙ trip_at-drop lo part j
         in
         rw at (mid (lo + j) (omega arith) (omega arith)))

@@ -21,7 +21,7 @@ use Rattle.layout.specs.declared.Half.{Half}
 use Rattle.layout.specs.Stored.{subdivision_of}
 use Rattle.layout.specs.Words.{entry_words, rows, trip_at, order, partitions, partition_number, slot}
 use Rattle.layout.proofs.RowOrder.{Distinct, slot_sorted}
-use Rattle.layout.proofs.Rows.{length-rows, get_d_rows, rows_words}
+use Rattle.layout.proofs.Rows.{length-rows, get_or_rows, rows_words}
 use Rattle.layout.proofs.ByDirectory.{LaidFrom, slot-from}
 use Rattle.store.specs.Parts.{part_words, PartThere}
 use Rattle.store.proofs.Parts.{laid_there, laid_words}
@@ -43,7 +43,7 @@ in_turn : (lt : Trip → Trip → Bool) (l : List ℕ) → Sorted lt (rows l) �
     → lt (trip_at l i) (trip_at l k) ≡ true
 in_turn lt l w i k h g =
     let n = length-rows l in
-    rw (← get_d_rows l i (trip_at l 0) (omega arith), ← get_d_rows l k (trip_at l 0) g) (in_order (trip_at l 0) lt w i k h (omega arith))
+    rw (← get_or_rows l i (trip_at l 0) (omega arith), ← get_or_rows l k (trip_at l 0) g) (in_order (trip_at l 0) lt w i k h (omega arith))
 
 module _ {s : Scale} {h : Half} {ts : List Trip} {d : List ℕ} {base : ℕ} {l : List ℕ} (w : LaidFrom s h ts d base l) (distinct : Distinct ts)
     (sure : Bool) where

@@ -9,7 +9,6 @@ use Rattle.layout.specs.Calls.{index}
 use Rattle.ask.specs.declared.judge.Judgement.TheVariants.{Fit}
 use Rattle.ask.proofs.QuestionJudged.{Judged, judged_fit, judged_unfit}
 use Rattle.ask.proofs.Endings.{ends_unfit, past_chain}
-use borrow.Author.Rules.{rules}
 use Rattle.ask.proofs.answer_to.Goals as goal
 
 pub listed-requires : goal.listed-requires

@@ -5,7 +5,6 @@ use Rattle.ruler.specs.Ruler.{scale_of, scale}
 use Rattle.layout.specs.Calls.{index, ask_of}
 use Rattle.verify.proofs.Opening.{opened, shut}
 use Rattle.ask.proofs.Endings.{ends_unchecked, past_check}
-use borrow.Author.Rules.{rules}
 use Rattle.ask.proofs.ask.Goals as goal
 
 pub answer_to-requires : goal.answer_to-requires

@@ -6,7 +6,6 @@ use lib.ListN.{length, get_or}
 use Rattle.lists.specs.Lists.{ascending}
 use Rattle.trip.specs.declared.Trip.{Trip}
 use Rattle.layout.specs.Words.{partitions}
-use Rattle.layout.specs.Answers.{answer}
 use Rattle.layout.specs.Refusals.{room_test}
 use Rattle.layout.specs.Calls.{index}
 use Rattle.layout.proofs.Chains.{of_room}

@@ -3,7 +3,6 @@ use mathlib.Core.Path.{sym}
 use Rattle.layout.proofs.Chains.{has_room, no_room_lem}
 use mathlib.Core.Path.{sym}
 use native.Mathlib.Omega.{arith}
-use borrow.Author.Rules.{rules}
 use Rattle.ask.proofs.room_for.Goals as goal
 
 pub returns-then-trips-room : goal.returns-then-trips-room

@@ -6,7 +6,6 @@ use Rattle.layout.specs.declared.Outcome.{Outcome}
 use Rattle.layout.specs.Calls.{index, after, add_of}
 use Rattle.verify.proofs.Opening.{opened}
 use Rattle.edit.proofs.Chained.{add_shut}
-use borrow.Author.Rules.{rules}
 use Rattle.edit.proofs.add.Goals as goal
 
 pub add_checked-requires : goal.add_checked-requires

@@ -1,11 +1,9 @@
 -- A refused outcome leaves the words; an accepted one is written.
 use mathlib.Core.Path.{sym, ◌∙◌}
-use borrow.Author.Tests.{not-true, not-false}
 use Rattle.ruler.specs.Ruler.{scale}
 use Rattle.layout.specs.Calls.{index}
 use Rattle.layout.proofs.Links.{is-accepted}
 use Rattle.edit.proofs.Chained.{add_refused, add-accepted}
-use borrow.Author.Rules.{rules}
 use Rattle.edit.proofs.add_checked.Goals as goal
 
 pub returns-then-not-is_accepted : goal.returns-then-not-is_accepted

@@ -8,7 +8,6 @@ use Rattle.layout.specs.Calls.{index}
 use Rattle.layout.proofs.RulerCells.{deep-ruler}
 use Rattle.edit.proofs.HalfLent.{adding, two_parts, first_lent, second_lent, both_back}
 use native.Mathlib.Omega.{arith}
-use borrow.Author.Rules.{rules}
 use Rattle.edit.proofs.put_in.Goals as goal
 
 pub half_length-middle-requires : goal.half_length-middle-requires

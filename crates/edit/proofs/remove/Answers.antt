@@ -6,7 +6,6 @@ use Rattle.layout.specs.declared.Outcome.{Outcome}
 use Rattle.layout.specs.Calls.{index, after, remove_of}
 use Rattle.verify.proofs.Opening.{opened}
 use Rattle.edit.proofs.Chained.{remove_shut}
-use borrow.Author.Rules.{rules}
 use Rattle.edit.proofs.remove.Goals as goal
 
 pub remove_checked-requires : goal.remove_checked-requires

@@ -13,7 +13,6 @@ use Rattle.edit.proofs.IndexRead.{Shown, shown}
 use Rattle.edit.proofs.Chained.{remove-accepted}
 use Rattle.edit.proofs.Removed.{found, not_found}
 use native.Mathlib.Omega.{arith}
-use borrow.Author.Rules.{rules}
 use Rattle.edit.proofs.remove_checked.Goals as goal
 
 pub trips_of-trips-requires : goal.trips_of-trips-requires

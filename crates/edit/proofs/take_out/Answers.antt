@@ -8,7 +8,6 @@ use Rattle.layout.specs.Calls.{index}
 use Rattle.layout.proofs.RulerCells.{deep-ruler}
 use Rattle.edit.proofs.HalfLent.{removing, two_parts, first_lent, second_lent, both_back}
 use native.Mathlib.Omega.{arith}
-use borrow.Author.Rules.{rules}
 use Rattle.edit.proofs.take_out.Goals as goal
 
 pub half_length-middle-requires : goal.half_length-middle-requires

@@ -4,7 +4,6 @@ use mathlib.Core.Bool.{Bool, true, false, not, ◌||◌}
 use lib.Dec.{ltb}
 use Rattle.export.specs.Said.{first_of_replicas}
 use Rattle.export.proofs.Thin.{arena-said}
-use borrow.Author.Rules.{rules}
 use Rattle.export.proofs.arena_of.Goals as goal
 
 pub returns-then-is_accepted-subdivision : goal.returns-then-is_accepted-subdivision

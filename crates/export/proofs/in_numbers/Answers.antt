@@ -1,6 +1,5 @@
 -- Both numbers are those of the outcome.
 use mathlib.Core.Path.{refl}
-use borrow.Author.Rules.{rules}
 use Rattle.export.proofs.in_numbers.Goals as goal
 
 pub returns : goal.returns

@@ -1,7 +1,6 @@
 -- The outcome of the entry, in numbers.
 use Rattle.export.specs.Said.{add_said}
 use Rattle.export.proofs.Thin.{left_so}
-use borrow.Author.Rules.{rules}
 use Rattle.export.proofs.kheyambo_add.Goals as goal
 
 pub returns : goal.returns

@@ -1,7 +1,6 @@
 -- The outcome of the entry and the count, in numbers.
 use Rattle.export.specs.Said.{ask_said}
 use Rattle.export.proofs.Thin.{told_so}
-use borrow.Author.Rules.{rules}
 use Rattle.export.proofs.kheyambo_ask.Goals as goal
 
 pub returns : goal.returns

@@ -4,7 +4,6 @@ use Rattle.ruler.specs.declared.Numbers.{Numbers}
 use Rattle.layout.specs.Calls.{index}
 use Rattle.export.specs.Said.{build_said}
 use Rattle.export.proofs.Thin.{left_so}
-use borrow.Author.Rules.{rules}
 use Rattle.export.proofs.kheyambo_build.Goals as goal
 
 pub returns : goal.returns

@@ -6,7 +6,6 @@ use Rattle.verify.proofs.Opening.{told}
 use Rattle.view.proofs.ViewEntries.{readable, rows-opened}
 use Rattle.export.specs.Said.{numbers_named, said_of, check_said, census_said}
 use Rattle.export.proofs.Thin.{counted_so}
-use borrow.Author.Rules.{rules}
 use Rattle.export.proofs.kheyambo_census.Goals as goal
 
 pub rows_opened-rows-requires : goal.rows_opened-rows-requires

@@ -1,7 +1,6 @@
 -- The outcome of the entry, in numbers.
 use Rattle.export.specs.Said.{said_of, check_said}
 use mathlib.Core.Path.{ap, ◌∙◌}
-use borrow.Author.Rules.{rules}
 use Rattle.export.proofs.kheyambo_check.Goals as goal
 
 pub returns : goal.returns

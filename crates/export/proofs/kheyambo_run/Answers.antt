@@ -5,7 +5,6 @@ use Rattle.layout.specs.Calls.{index}
 use Rattle.export.specs.Said.{run_said}
 use Rattle.export.proofs.Thin.{run_small, run-shown}
 use native.Mathlib.Omega.{arith}
-use borrow.Author.Rules.{rules}
 use Rattle.export.proofs.kheyambo_run.Goals as goal
 
 pub overflow_cast-result : goal.overflow_cast-result

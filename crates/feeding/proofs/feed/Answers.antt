@@ -1,13 +1,10 @@
 -- What the rest of the chunk does from here is what the chunk does from its start.
-use mathlib.Core.Path.{◌≡◌, refl, ◌∙◌}
-use Prim.Native.Nat.{◌+◌, ◌-◌, ◌≤◌}
+use mathlib.Core.Path.{refl, ◌∙◌}
+use Prim.Native.Nat.{◌+◌, ◌≤◌}
 use lib.ListN.{length}
-use Rattle.layout.specs.Calls.{index}
 use Rattle.dialogue.specs.Session.{most_reply}
-use Rattle.feeding.specs.Feeding.{held_by}
-use Rattle.feeding.proofs.Holding.{Feeding, feeding_start, byte_short, feeding_turn, feeding_end}
+use Rattle.feeding.proofs.Holding.{feeding_start, byte_short, feeding_turn, feeding_end}
 use native.Mathlib.Omega.{arith}
-use borrow.Author.Rules.{rules}
 use Rattle.feeding.proofs.feed.Goals as goal
 
 pub loop-i-init : goal.loop-i-init

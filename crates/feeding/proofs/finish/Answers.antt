@@ -1,7 +1,6 @@
 -- What is held is the last line, and where nothing is, there is none.
 use Rattle.layout.specs.Calls.{index}
 use Rattle.feeding.proofs.Holding.{end_line, end_silent}
-use borrow.Author.Rules.{rules}
 use Rattle.feeding.proofs.finish.Goals as goal
 
 pub returns-then-standing-held : goal.returns-then-standing-held

@@ -1,7 +1,6 @@
 -- A byte that has room is kept, and one that has none is not.
 use Rattle.feeding.proofs.Holding.{byte_kept_lem, byte_lost}
 use native.Mathlib.Omega.{arith}
-use borrow.Author.Rules.{rules}
 use Rattle.feeding.proofs.keep_byte.Goals as goal
 
 pub returns-then-held-lt-LINE : goal.returns-then-held-lt-LINE

@@ -1,7 +1,6 @@
 -- The turn of what is kept, and then nothing is held.
 use Rattle.feeding.proofs.Holding.{line-room, line-left}
 use native.Mathlib.Omega.{arith}
-use borrow.Author.Rules.{rules}
 use Rattle.feeding.proofs.line_done.Goals as goal
 
 pub slice_bounds-turn-end : goal.slice_bounds-turn-end

@@ -2,7 +2,6 @@
 use borrow.Author.Tests.{not-true, not-false}
 use Rattle.layout.specs.Calls.{index}
 use Rattle.feeding.proofs.Holding.{byte_over, byte_ends, byte_stays}
-use borrow.Author.Rules.{rules}
 use Rattle.feeding.proofs.take_byte.Goals as goal
 
 pub returns-then-not-standing : goal.returns-then-not-standing

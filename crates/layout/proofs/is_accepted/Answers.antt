@@ -1,6 +1,5 @@
 -- Each outcome has its line of `is_accepted`.
 use Rattle.layout.specs.Refusals.{is_accepted}
-use borrow.Author.Rules.{rules}
 use Rattle.layout.proofs.is_accepted.Goals as goal
 
 pub returns-in-Accepted : goal.returns-in-Accepted

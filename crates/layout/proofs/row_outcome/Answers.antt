@@ -1,14 +1,12 @@
 -- The times first; past them what is left, in its order.
 use mathlib.Core.Path.{◌≡◌, refl, sym, ap₂, ◌∙◌}
 use mathlib.Core.Bool.{Bool, true, false}
-use borrow.Author.Tests.{not-true, not-false}
 use Rattle.ruler.specs.Ruler.{scale}
 use Rattle.trip.specs.Trips.{never_runs}
 use Rattle.layout.specs.declared.Refusal.TheVariants.{IdTaken, NoDays}
 use Rattle.layout.specs.declared.Outcome.TheVariants.{Accepted}
 use Rattle.layout.specs.Refusals.{refuse, row_tests_by}
 use Rattle.layout.proofs.TimesFirst.{untimely, timely}
-use borrow.Author.Rules.{rules}
 use Rattle.layout.proofs.row_outcome.Goals as goal
 use Rattle.layout.proofs.row_outcome.Lts as lts
 use Rattle.layout.proofs.row_outcome.Tie as tie

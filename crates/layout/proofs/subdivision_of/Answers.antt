@@ -1,6 +1,5 @@
 -- Each half and side has its line of `subdivision_of`.
 use Rattle.layout.specs.Stored.{subdivision_of}
-use borrow.Author.Rules.{rules}
 use Rattle.layout.proofs.subdivision_of.Goals as goal
 
 pub returns-then-aft : goal.returns-then-aft

@@ -4,7 +4,6 @@ use mathlib.Core.Bool.{true, false, not}
 use Rattle.ruler.specs.Ruler.{scale}
 use Rattle.layout.specs.Refusals.{refuse, backward}
 use Rattle.layout.proofs.Chains.{off_said, times-said}
-use borrow.Author.Rules.{rules}
 use Rattle.layout.proofs.time_outcome.Goals as goal
 
 pub returns-then-off_ruler : goal.returns-then-off_ruler

@@ -1,13 +1,12 @@
 -- The times first; past them the day.
 use mathlib.Core.Path.{◌≡◌, sym, ap, ◌∙◌}
 use mathlib.Core.Bool.{Bool, true, false}
-use borrow.Author.Tests.{not-true, not-false, lt-ltb, le-ltb}
+use borrow.Author.Tests.{lt-ltb, le-ltb}
 use Rattle.ruler.specs.Ruler.{scale}
 use Rattle.layout.specs.declared.Refusal.TheVariants.{NoSuchDay}
 use Rattle.layout.specs.declared.Outcome.TheVariants.{Accepted}
 use Rattle.layout.specs.Refusals.{refuse, no_such_day, window_tests}
 use Rattle.layout.proofs.TimesFirst.{untimely, timely}
-use borrow.Author.Rules.{rules}
 use Rattle.layout.proofs.window_outcome.Goals as goal
 use Rattle.layout.proofs.window_outcome.Lts as lts
 use Rattle.layout.proofs.window_outcome.Tie as tie

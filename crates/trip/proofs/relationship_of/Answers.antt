@@ -1,6 +1,6 @@
 -- Each arm's number is its place in the list of names; past the arms, the list has no name.
-use mathlib.Core.Path.{◌≡◌, sym}
-use Prim.Native.Nat.{ℕ, ◌+◌, ◌≤◌, zero-le}
+use mathlib.Core.Path.{sym}
+use Prim.Native.Nat.{◌≤◌}
 use native.Mathlib.Omega.{arith}
 use lib.ListN.{get_or-eq_default}
 use Rattle.trip.specs.Relationships.{in_order}

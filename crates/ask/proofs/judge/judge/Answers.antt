@@ -1,7 +1,6 @@
 -- By what the code names, and by what the tests of the window say.
 use mathlib.Core.Path.{sym, ◌∙◌}
 use Rattle.ask.specs.QuestionJudged.{judged_as, judged_of}
-use borrow.Author.Rules.{rules}
 use Rattle.ask.proofs.judge.judge.Goals as goal
 
 pub returns-in_default : goal.returns-in_default

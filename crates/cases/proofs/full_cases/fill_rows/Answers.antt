@@ -1,7 +1,5 @@
 -- The length stays, and the place is never past the end.
-use mathlib.Core.Path.{◌≡◌, refl}
-use Prim.Native.Nat.{◌≤◌, ◌-◌}
-use lib.ListN.{length}
+use mathlib.Core.Path.{refl}
 use native.Mathlib.Omega.{arith}
 use Rattle.cases.proofs.full_cases.fill_rows.Goals as goal
 

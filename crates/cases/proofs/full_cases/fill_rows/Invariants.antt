@@ -1,8 +1,7 @@
 -- The length stays, and the place is never past the end.
-use mathlib.Core.Path.{◌≡◌, refl}
+use mathlib.Core.Path.{◌≡◌}
 use Prim.Native.Nat.{◌≤◌, ◌-◌}
 use lib.ListN.{length}
-use native.Mathlib.Omega.{arith}
 use Rattle.cases.proofs.full_cases.fill_rows.Given as goal
 
 abbrev pub invariant-loop-i : goal.invariant-loop-i

@@ -1,7 +1,6 @@
 -- The length stays.
 use lib.ListN.{length-set}
 use native.Mathlib.Omega.{arith}
-use borrow.Author.Rules.{rules}
 use Rattle.cases.proofs.full_cases.put_row.Goals as goal
 
 pub bounds-table-at-2 : goal.bounds-table-at-2

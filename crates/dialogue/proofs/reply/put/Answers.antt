@@ -1,9 +1,8 @@
 -- What is stored and what is still to be stored are, together, all the bytes.
 use mathlib.Core.Path.{◌≡◌, refl, ◌∙◌}
-use Prim.Native.Nat.{◌+◌, ◌-◌, ◌≤◌}
 use native.Mathlib.Nat.{add-zero}
-use lib.ListN.{length, drop, length-set}
-use lib.Seq.{sets, drop-length}
+use lib.ListN.{length, length-set}
+use lib.Seq.{drop-length}
 use Rattle.lists.proofs.Stores.{sets_turn}
 use native.Mathlib.Omega.{arith}
 use Rattle.dialogue.proofs.reply.put.Goals as goal

@@ -1,11 +1,8 @@
 -- What is stored and what is still to be stored are, together, all the bytes.
-use mathlib.Core.Path.{◌≡◌, refl, ◌∙◌}
+use mathlib.Core.Path.{◌≡◌}
 use Prim.Native.Nat.{◌+◌, ◌-◌, ◌≤◌}
-use native.Mathlib.Nat.{add-zero}
-use lib.ListN.{length, drop, length-set}
-use lib.Seq.{sets, drop-length}
-use Rattle.lists.proofs.Stores.{sets_turn}
-use native.Mathlib.Omega.{arith}
+use lib.ListN.{length, drop}
+use lib.Seq.{sets}
 use Rattle.dialogue.proofs.reply.put.Given as goal
 
 abbrev pub invariant-loop-i : goal.invariant-loop-i

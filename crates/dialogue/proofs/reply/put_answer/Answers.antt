@@ -1,6 +1,5 @@
 -- The ids of an accepted question, or its refusal.
 use Rattle.dialogue.specs.Reply.{answer_bytes}
-use borrow.Author.Rules.{rules}
 use Rattle.dialogue.proofs.reply.put_answer.Goals as goal
 
 pub returns-in-Accepted : goal.returns-in-Accepted

@@ -1,7 +1,6 @@
 -- The bytes of the code are those of the definition.
 use Rattle.dialogue.specs.Reply.{as_line, bad_line_bytes}
 use native.Mathlib.Omega.{arith}
-use borrow.Author.Rules.{rules}
 use Rattle.dialogue.proofs.reply.put_bad_line.Goals as goal
 
 pub returns : goal.returns

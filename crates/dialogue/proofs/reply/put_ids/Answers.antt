@@ -1,7 +1,6 @@
 -- What is written and the ids still to be written are, together, all of them.
-use Rattle.dialogue.proofs.Replies.{Putting, putting_start, putting_turn, putting_end}
-use lib.ListN.{length, length-set}
-use Prim.Native.Nat.{◌-◌}
+use Rattle.dialogue.proofs.Replies.{putting_start, putting_turn, putting_end}
+use lib.ListN.{length-set}
 use native.Mathlib.Omega.{arith}
 use Rattle.dialogue.proofs.reply.put_ids.Goals as goal
 

@@ -1,8 +1,7 @@
 -- What is written and the ids still to be written are, together, all of them.
-use Rattle.dialogue.proofs.Replies.{Putting, putting_start, putting_turn, putting_end}
-use lib.ListN.{length, length-set}
+use Rattle.dialogue.proofs.Replies.{Putting}
+use lib.ListN.{length}
 use Prim.Native.Nat.{◌-◌}
-use native.Mathlib.Omega.{arith}
 use Rattle.dialogue.proofs.reply.put_ids.Given as goal
 
 abbrev pub invariant-loop-i : goal.invariant-loop-i

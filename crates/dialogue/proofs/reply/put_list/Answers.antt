@@ -9,7 +9,6 @@ use Rattle.text.specs.Decimal.{decimal}
 use Rattle.text.proofs.Writing.{ten_digits}
 use Rattle.dialogue.proofs.Replies.{three_puts}
 use native.Mathlib.Omega.{arith}
-use borrow.Author.Rules.{rules}
 use Rattle.dialogue.proofs.reply.put_list.Goals as goal
 
 pub put_ids-list-requires : goal.put_ids-list-requires

@@ -2,7 +2,6 @@
 use Rattle.text.proofs.Writing.{ten_digits}
 use Rattle.dialogue.proofs.Replies.{number_put}
 use native.Mathlib.Omega.{arith}
-use borrow.Author.Rules.{rules}
 use Rattle.dialogue.proofs.reply.put_number.Goals as goal
 
 pub overflow_add-result : goal.overflow_add-result

@@ -3,7 +3,6 @@ use Rattle.dialogue.proofs.SessionTurns.{in_front, edited_done}
 use Rattle.layout.specs.Calls.{After, add_of}
 use Rattle.layout.specs.Words.{Index}
 use Rattle.ruler.specs.Ruler.{scale_of}
-use borrow.Author.Rules.{rules}
 use Rattle.dialogue.proofs.turn.add_turn.Goals as goal
 
 pub slice_bounds-add-end : goal.slice_bounds-add-end

@@ -5,7 +5,6 @@ use Rattle.layout.specs.Words.{Index}
 use Rattle.ruler.specs.Ruler.{scale_of}
 use borrow.Rule.Slice.PartMut.{mid_len}
 use native.Mathlib.Omega.{arith}
-use borrow.Author.Rules.{rules}
 use Rattle.dialogue.proofs.turn.ask_turn.Goals as goal
 
 pub slice_bounds-ask-end : goal.slice_bounds-ask-end

@@ -1,7 +1,6 @@
 -- Only the reply changes.
 use mathlib.Core.Path.{refl}
 use Rattle.dialogue.specs.Session.{bad_line}
-use borrow.Author.Rules.{rules}
 use Rattle.dialogue.proofs.turn.bad_turn.Goals as goal
 
 pub returns : goal.returns

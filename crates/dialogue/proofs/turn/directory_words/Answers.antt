@@ -1,7 +1,6 @@
 -- The numbers say their deepest level.
 use mathlib.Core.Path.{ap, ◌∙◌}
 use Rattle.layout.specs.Words.{directory_length}
-use borrow.Author.Rules.{rules}
 use Rattle.dialogue.proofs.turn.directory_words.Goals as goal
 
 pub returns : goal.returns

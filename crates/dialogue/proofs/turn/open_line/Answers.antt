@@ -2,7 +2,6 @@
 use Rattle.dialogue.proofs.SessionTurns.{not_deeper}
 use Rattle.dialogue.specs.Session.{turn_of}
 use Rattle.layout.specs.Calls.{index}
-use borrow.Author.Rules.{rules}
 use Rattle.dialogue.proofs.turn.open_line.Goals as goal
 
 pub returns-then-desk-m : goal.returns-then-desk-m

@@ -1,7 +1,6 @@
 -- The front of the directory is built and put back, and the outcome is written.
 use mathlib.Core.Path.{refl}
 use Rattle.dialogue.proofs.SessionTurns.{in_front, opened_done}
-use borrow.Author.Rules.{rules}
 use Rattle.dialogue.proofs.turn.open_turn.Goals as goal
 
 pub slice_bounds-build-end-2 : goal.slice_bounds-build-end-2

@@ -2,7 +2,6 @@
 use Rattle.dialogue.specs.Session.{turn_of}
 use Rattle.layout.specs.Calls.{index}
 use borrow.Author.Tests.{not-true, not-false}
-use borrow.Author.Rules.{rules}
 use Rattle.dialogue.proofs.SessionTurns.{done_then, done_else}
 use Rattle.dialogue.proofs.turn.remove_line.Goals as goal
 

@@ -1,7 +1,6 @@
 -- Each command has its own turn.
 use Rattle.dialogue.specs.Session.{turn_of}
 use Rattle.layout.specs.Calls.{index}
-use borrow.Author.Rules.{rules}
 use Rattle.dialogue.proofs.turn.turn.Goals as goal
 
 pub returns-in-Bad : goal.returns-in-Bad

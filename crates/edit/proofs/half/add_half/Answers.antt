@@ -2,7 +2,6 @@
 use Rattle.ruler.specs.Ruler.{scale}
 use Rattle.edit.proofs.Spotted.{over-inside, over-front}
 use native.Mathlib.Omega.{arith}
-use borrow.Author.Rules.{rules}
 use Rattle.edit.proofs.half.add_half.Goals as goal
 
 pub slice_bounds-add_to_slots-end : goal.slice_bounds-add_to_slots-end

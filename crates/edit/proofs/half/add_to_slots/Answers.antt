@@ -1,15 +1,7 @@
 -- After j turns the first j of the trip's slots are changed: for every index that the words at entry are of.
-use mathlib.Core.Path.{◌≡◌, refl}
-use Prim.Native.Nat.{◌-◌, ◌≤◌}
-use lib.ListN.{length}
-use Rattle.ruler.specs.Ruler.{Scale}
-use Rattle.layout.specs.Words.{Index}
-use Rattle.store.specs.TripWalk.{slots_of_trip}
-use Rattle.store.specs.Slots.{Holds}
-use Rattle.edit.specs.HalfEdited.{Adding}
+use mathlib.Core.Path.{refl}
 use Rattle.edit.proofs.Grown.{grown_slots, grown_start, grown_room, grown_turn, grown_end}
 use native.Mathlib.Omega.{arith}
-use borrow.Author.Rules.{rules}
 use Rattle.edit.proofs.half.add_to_slots.Goals as goal
 
 pub loop-j-init : goal.loop-j-init

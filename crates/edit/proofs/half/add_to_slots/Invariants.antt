@@ -1,5 +1,5 @@
 -- After j turns the first j of the trip's slots are changed: for every index that the words at entry are of.
-use mathlib.Core.Path.{◌≡◌, refl}
+use mathlib.Core.Path.{◌≡◌}
 use Prim.Native.Nat.{◌-◌, ◌≤◌}
 use lib.ListN.{length}
 use Rattle.ruler.specs.Ruler.{Scale}
@@ -7,9 +7,7 @@ use Rattle.layout.specs.Words.{Index}
 use Rattle.store.specs.TripWalk.{slots_of_trip}
 use Rattle.store.specs.Slots.{Holds}
 use Rattle.edit.specs.HalfEdited.{Adding}
-use Rattle.edit.proofs.Grown.{grown_slots, grown_start, grown_room, grown_turn, grown_end}
-use native.Mathlib.Omega.{arith}
-use borrow.Author.Rules.{rules}
+use Rattle.edit.proofs.Grown.{grown_slots}
 use Rattle.edit.proofs.half.add_to_slots.Given as goal
 
 abbrev pub invariant-loop-j : goal.invariant-loop-j

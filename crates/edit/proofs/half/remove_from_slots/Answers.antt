@@ -1,15 +1,7 @@
 -- After j turns the first j of the trip's slots are changed: for every index that the words at entry are of.
-use mathlib.Core.Path.{◌≡◌, refl}
-use Prim.Native.Nat.{◌-◌, ◌≤◌}
-use lib.ListN.{length}
-use Rattle.ruler.specs.Ruler.{Scale}
-use Rattle.layout.specs.Words.{Index}
-use Rattle.store.specs.TripWalk.{slots_of_trip}
-use Rattle.store.specs.Slots.{Holds}
-use Rattle.edit.specs.HalfEdited.{Removing}
+use mathlib.Core.Path.{refl}
 use Rattle.edit.proofs.Shrunk.{shrunk_slots, shrunk_start, shrunk_there, shrunk_turn, shrunk_end}
 use native.Mathlib.Omega.{arith}
-use borrow.Author.Rules.{rules}
 use Rattle.edit.proofs.half.remove_from_slots.Goals as goal
 
 pub loop-j-init : goal.loop-j-init

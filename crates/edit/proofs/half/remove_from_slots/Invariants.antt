@@ -1,5 +1,5 @@
 -- After j turns the first j of the trip's slots are changed: for every index that the words at entry are of.
-use mathlib.Core.Path.{◌≡◌, refl}
+use mathlib.Core.Path.{◌≡◌}
 use Prim.Native.Nat.{◌-◌, ◌≤◌}
 use lib.ListN.{length}
 use Rattle.ruler.specs.Ruler.{Scale}
@@ -7,9 +7,7 @@ use Rattle.layout.specs.Words.{Index}
 use Rattle.store.specs.TripWalk.{slots_of_trip}
 use Rattle.store.specs.Slots.{Holds}
 use Rattle.edit.specs.HalfEdited.{Removing}
-use Rattle.edit.proofs.Shrunk.{shrunk_slots, shrunk_start, shrunk_there, shrunk_turn, shrunk_end}
-use native.Mathlib.Omega.{arith}
-use borrow.Author.Rules.{rules}
+use Rattle.edit.proofs.Shrunk.{shrunk_slots}
 use Rattle.edit.proofs.half.remove_from_slots.Given as goal
 
 abbrev pub invariant-loop-j : goal.invariant-loop-j

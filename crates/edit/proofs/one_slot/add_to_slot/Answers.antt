@@ -1,6 +1,5 @@
 -- The place found is the trip's in the slot's order, and there is room there.
 use Rattle.edit.proofs.OneSlot.{room_at}
-use borrow.Author.Rules.{rules}
 use Rattle.edit.proofs.one_slot.add_to_slot.Goals as goal
 
 pub place_in-pos-requires : goal.place_in-pos-requires

@@ -3,7 +3,6 @@ use Prim.Native.Nat.{◌+◌}
 use Rattle.store.specs.Parts.{PartThere}
 use Rattle.edit.proofs.OneSlot.{slot-there, part_ordered, part_place}
 use native.Mathlib.Omega.{arith}
-use borrow.Author.Rules.{rules}
 use Rattle.edit.proofs.one_slot.place_in.Goals as goal
 
 pub overflow_add-slot : goal.overflow_add-slot

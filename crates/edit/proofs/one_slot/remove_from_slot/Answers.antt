@@ -1,6 +1,5 @@
 -- The place found is the trip's in the slot's order, and its entry is there.
 use Rattle.edit.proofs.OneSlot.{there_at}
-use borrow.Author.Rules.{rules}
 use Rattle.edit.proofs.one_slot.remove_from_slot.Goals as goal
 
 pub place_in-pos-requires : goal.place_in-pos-requires

@@ -5,7 +5,7 @@ use mathlib.Core.List.{List}
 use Prim.Native.Nat.{ℕ, ◌-◌, ◌*◌}
 use lib.Dec.{leb}
 use lib.ListN.{length, get_or, take}
-use borrow.Author.Tests.{le-leb, lt-leb, not-true, not-false}
+use borrow.Author.Tests.{le-leb, lt-leb}
 use Rattle.ruler.specs.Ruler.{scale, most_trips}
 use Rattle.trip.specs.declared.Trip.{Trip}
 use Rattle.layout.specs.declared.Half.TheVariants.{Replicas}
@@ -20,7 +20,6 @@ use Rattle.edit.proofs.IndexRead.{Shown, shown}
 use Rattle.edit.proofs.Chained.{add-full, add_row, add-room, row_taken}
 use Rattle.layout.proofs.RulerCells.{last_cell_lem}
 use native.Mathlib.Omega.{arith}
-use borrow.Author.Rules.{rules}
 use Rattle.edit.proofs.tests.add_outcome.Goals as goal
 
 pub trips_of-trips-requires : goal.trips_of-trips-requires

@@ -1,7 +1,6 @@
 -- The walk is no longer than the list that is lent.
 use Rattle.edit.proofs.Spotted.{over-inside}
 use native.Mathlib.Omega.{arith}
-use borrow.Author.Rules.{rules}
 use Rattle.edit.proofs.tests.entries_of_trip.Goals as goal
 
 pub returns : goal.returns

@@ -1,11 +1,10 @@
 -- k entries are passed, and none of them has the id.
 use mathlib.Core.Path.{◌≡◌, sym, ◌∙◌}
-use Prim.Native.Nat.{◌+◌, ◌-◌, ◌/◌, ◌≤◌, ◌<◌}
-use lib.ListN.{length, drop}
+use Prim.Native.Nat.{◌/◌, ◌<◌}
+use lib.ListN.{length}
 use borrow.Author.Tests.{eq-eqb, ne_eqb}
 use Rattle.layout.specs.Words.{entry_words, rows}
 use Rattle.layout.proofs.Rows.{length-rows}
-use Rattle.edit.specs.Search.{place_of_id}
 use Rattle.edit.proofs.IndexRead.{row_id, search_hit, search_miss, search_end}
 use native.Mathlib.Omega.{arith}
 use Rattle.edit.proofs.tests.find_id.Goals as goal

@@ -1,5 +1,4 @@
 -- The entries are those of the walk.
-use borrow.Author.Rules.{rules}
 use Rattle.edit.proofs.tests.lacks_room.Goals as goal
 
 pub returns : goal.returns

@@ -7,7 +7,6 @@ use Rattle.layout.specs.Words.{rows}
 use Rattle.layout.specs.Refusals.{row_tests_by, row_tests}
 use Rattle.layout.proofs.Rows.{length-rows}
 use Rattle.edit.proofs.IndexRead.{has_place}
-use borrow.Author.Rules.{rules}
 use Rattle.edit.proofs.tests.trip_outcome.Goals as goal
 
 pub returns : goal.returns

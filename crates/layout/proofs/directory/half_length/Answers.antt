@@ -4,7 +4,6 @@ use native.Mathlib.Numerals.{add-one}
 use lib.Pow.{pow_pos}
 use Rattle.layout.specs.Words.{partitions, half_length}
 use native.Mathlib.Omega.{arith}
-use borrow.Author.Rules.{rules}
 use Rattle.layout.proofs.directory.half_length.Goals as goal
 
 pub overflow_sub-result : goal.overflow_sub-result

@@ -1,5 +1,4 @@
 -- The definition, with the end of the front for its beginning.
-use borrow.Author.Rules.{rules}
 use Rattle.plan.proofs.looks.back_of.Goals as goal
 
 pub returns : goal.returns

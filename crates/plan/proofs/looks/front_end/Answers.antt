@@ -1,6 +1,5 @@
 -- By whether all is known to match, and by whether the stretch has a slot at all.
 use borrow.Author.Tests.{lt-ltb, le-ltb}
-use borrow.Author.Rules.{rules}
 use Rattle.plan.proofs.looks.front_end.Goals as goal
 
 pub returns-then-stretch-2 : goal.returns-then-stretch-2

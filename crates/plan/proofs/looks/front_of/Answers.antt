@@ -1,5 +1,4 @@
 -- The definition, with the end of the front.
-use borrow.Author.Rules.{rules}
 use Rattle.plan.proofs.looks.front_of.Goals as goal
 
 pub returns : goal.returns

@@ -1,12 +1,11 @@
 -- Each arm is the definition's line for its number.
 use mathlib.Core.Path.{◌≡◌, refl, sym, ◌∙◌}
-use Prim.Native.Nat.{ℕ, zero, suc, ◌+◌, ◌≤◌, zero-le}
+use Prim.Native.Nat.{ℕ, zero, suc, ◌≤◌}
 use Rattle.layout.specs.declared.Half.TheVariants.{Replicas}
 use Rattle.plan.specs.declared.stretches.Stretches.{Stretches}
 use Rattle.plan.specs.declared.looks.Order.TheVariants.{Other}
 use Rattle.plan.specs.Looks.{back_of, look, look_at}
 use native.Mathlib.Omega.{arith}
-use borrow.Author.Rules.{rules}
 use Rattle.plan.proofs.looks.look_at.Goals as goal
 
 last-look : (s : Stretches) (k : ℕ) → 6 ≤ k → look_at s k ≡ look Replicas Other (back_of s.replicas)

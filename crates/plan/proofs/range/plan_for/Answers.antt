@@ -3,7 +3,6 @@ use lib.Pow.{pow_pos}
 use Rattle.layout.proofs.RulerCells.{deep-ruler}
 use Rattle.plan.specs.Plan.{plan_for}
 use native.Mathlib.Omega.{arith}
-use borrow.Author.Rules.{rules}
 use Rattle.plan.proofs.range.plan_for.Goals as goal
 
 pub bottom_cell-f-requires : goal.bottom_cell-f-requires

@@ -4,7 +4,6 @@ use Rattle.ruler.specs.Ruler.{deepest}
 use Rattle.plan.specs.Plan.{arranged}
 use Rattle.layout.proofs.Numbers.{half_small}
 use native.Mathlib.Omega.{arith}
-use borrow.Author.Rules.{rules}
 use Rattle.plan.proofs.stretches.arranged.Goals as goal
 
 pub overflow_add-p : goal.overflow_add-p

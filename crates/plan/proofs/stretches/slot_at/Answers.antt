@@ -3,7 +3,6 @@ use Rattle.ruler.proofs.CellLevels.{up_lt}
 use Rattle.layout.specs.Words.{partition_number}
 use Rattle.plan.specs.Plan.{first_slot}
 use native.Mathlib.Omega.{arith}
-use borrow.Author.Rules.{rules}
 use Rattle.plan.proofs.stretches.slot_at.Goals as goal
 
 pub rank-requires : goal.rank-requires

@@ -4,7 +4,6 @@ use Rattle.plan.specs.Plan.{stretches_at}
 use Rattle.layout.proofs.Numbers.{half_small}
 use Rattle.plan.proofs.Ranges.{few_slots, slots_in}
 use native.Mathlib.Omega.{arith}
-use borrow.Author.Rules.{rules}
 use Rattle.plan.proofs.stretches.stretches_at.Goals as goal
 
 pub slot_at-q-requires : goal.slot_at-q-requires

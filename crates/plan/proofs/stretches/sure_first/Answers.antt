@@ -1,6 +1,5 @@
 -- The definition, with the cell after the low one.
 use Rattle.plan.specs.Plan.{sure_first}
-use borrow.Author.Rules.{rules}
 use Rattle.plan.proofs.stretches.sure_first.Goals as goal
 
 pub begins-requires : goal.begins-requires

@@ -1,6 +1,5 @@
 -- The definition, with the plan's cell at its level.
 use Rattle.plan.specs.Plan.{sure_last}
-use borrow.Author.Rules.{rules}
 use Rattle.plan.proofs.stretches.sure_last.Goals as goal
 
 pub returns : goal.returns

@@ -5,7 +5,6 @@ use lib.ListN.{length, take, drop, length-take, length-drop}
 use Rattle.text.specs.Decimal.{decimal, Written}
 use Rattle.text.proofs.Writing.{ten_digits, fits-front}
 use native.Mathlib.Omega.{arith}
-use borrow.Author.Rules.{rules}
 use Rattle.probe.proofs.print.put.Goals as goal
 
 pub overflow_add-result : goal.overflow_add-result

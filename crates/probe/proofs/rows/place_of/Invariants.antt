@@ -1,7 +1,6 @@
 -- Each name takes at least a byte of the list, so the place is never past it.
 use Prim.Native.Nat.{◌+◌, ◌-◌, ◌≤◌}
 use lib.ListN.{length}
-use borrow.Author.Rules.{rules}
 use Rattle.probe.proofs.rows.place_of.Given as goal
 
 abbrev pub invariant-loop-from : goal.invariant-loop-from

@@ -1,6 +1,5 @@
 -- The place that `text` finds lies in the line.
 use Rattle.text.proofs.Parting.{place_from, place_within}
-use borrow.Author.Rules.{rules}
 use Rattle.probe.proofs.scan.field_end.Goals as goal
 
 pub returns : goal.returns

@@ -1,9 +1,6 @@
 -- No more words are read than have room, and the words lent keep their length.
-use mathlib.Core.Path.{◌≡◌}
-use Prim.Native.Nat.{◌-◌, ◌≤◌}
-use lib.ListN.{length, length-set}
+use lib.ListN.{length-set}
 use native.Mathlib.Omega.{arith}
-use borrow.Author.Rules.{rules}
 use Rattle.probe.proofs.scan.words_at.Goals as goal
 
 pub loop-i-preserved : goal.loop-i-preserved

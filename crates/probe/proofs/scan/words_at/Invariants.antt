@@ -1,9 +1,7 @@
 -- No more words are read than have room, and the words lent keep their length.
 use mathlib.Core.Path.{◌≡◌}
 use Prim.Native.Nat.{◌-◌, ◌≤◌}
-use lib.ListN.{length, length-set}
-use native.Mathlib.Omega.{arith}
-use borrow.Author.Rules.{rules}
+use lib.ListN.{length}
 use Rattle.probe.proofs.scan.words_at.Given as goal
 
 abbrev pub invariant-loop-i : goal.invariant-loop-i

@@ -1,7 +1,6 @@
 -- One shift, as `cell_up` has it.
 use mathlib.Core.Path.{refl}
 use Rattle.ruler.specs.Ruler.{cell_up}
-use borrow.Author.Rules.{rules}
 use Rattle.ruler.proofs.Cell.at_level.Goals as goal
 
 pub returns : goal.returns

@@ -3,7 +3,6 @@ use Prim.Native.Nat.{◌-◌}
 use lib.Pow.{pow_pos}
 use Rattle.ruler.specs.Ruler.{begins}
 use native.Mathlib.Omega.{arith}
-use borrow.Author.Rules.{rules}
 use Rattle.ruler.proofs.Cell.begins.Goals as goal
 
 pub nonzero_rem-result : goal.nonzero_rem-result

@@ -1,7 +1,6 @@
 -- The first cell in it is a small number.
 use Rattle.ruler.proofs.Small.{small}
 use native.Mathlib.Omega.{arith}
-use borrow.Author.Rules.{rules}
 use Rattle.ruler.proofs.Cell.first_at.Goals as goal
 
 pub overflow_mul-result : goal.overflow_mul-result

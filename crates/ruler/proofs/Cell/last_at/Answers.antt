@@ -4,7 +4,6 @@ use Rattle.ruler.proofs.Small.{small}
 use Prim.Native.Nat.{◌≤◌}
 use Rattle.ruler.specs.Ruler.{deepest}
 use native.Mathlib.Omega.{arith}
-use borrow.Author.Rules.{rules}
 use Rattle.ruler.proofs.Cell.last_at.Goals as goal
 
 pub overflow_add-result : goal.overflow_add-result

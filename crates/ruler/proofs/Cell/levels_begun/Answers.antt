@@ -2,7 +2,6 @@
 use lib.Pow.{pow_mono}
 use Rattle.ruler.proofs.Zeros.{zeros_ended}
 use native.Mathlib.Omega.{arith}
-use borrow.Author.Rules.{rules}
 use Rattle.ruler.proofs.Cell.levels_begun.Goals as goal
 
 pub overflow_add-result : goal.overflow_add-result

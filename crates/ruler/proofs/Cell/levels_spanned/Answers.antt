@@ -3,7 +3,6 @@ use Prim.Native.Nat.{◌+◌, ◌-◌}
 use lib.Pow.{pow_mono}
 use Rattle.ruler.proofs.Zeros.{highest}
 use native.Mathlib.Omega.{arith}
-use borrow.Author.Rules.{rules}
 use Rattle.ruler.proofs.Cell.levels_spanned.Goals as goal
 
 pub overflow_add-result : goal.overflow_add-result

@@ -1,7 +1,6 @@
 -- The number after a level's cells is small.
 use lib.Pow.{pow_mono}
 use native.Mathlib.Omega.{arith}
-use borrow.Author.Rules.{rules}
 use Rattle.ruler.proofs.Cell.next.Goals as goal
 
 pub overflow_add-result : goal.overflow_add-result

@@ -9,7 +9,6 @@ use lib.Pow.{pow_pos, pow_mono}
 use Rattle.ruler.specs.Ruler.{deepest}
 use Rattle.ruler.proofs.Pieces.{pieces_first, zeros_fit, share_small, counted}
 use native.Mathlib.Omega.{arith}
-use borrow.Author.Rules.{rules}
 use Rattle.ruler.proofs.Cell.pieces_to.Goals as goal
 
 -- both numbers are small

@@ -1,7 +1,6 @@
 -- The cells of the levels above, and those before it in its own.
 use lib.Pow.{pow_pos, pow_mono}
 use native.Mathlib.Omega.{arith}
-use borrow.Author.Rules.{rules}
 use Rattle.ruler.proofs.Cell.rank.Goals as goal
 
 pub overflow_sub-result : goal.overflow_sub-result

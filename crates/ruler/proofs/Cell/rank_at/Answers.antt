@@ -2,7 +2,6 @@
 use lib.Pow.{pow_pos, pow_mono}
 use Rattle.ruler.proofs.CellLevels.{up_all}
 use native.Mathlib.Omega.{arith}
-use borrow.Author.Rules.{rules}
 use Rattle.ruler.proofs.Cell.rank_at.Goals as goal
 
 pub overflow_add-result : goal.overflow_add-result

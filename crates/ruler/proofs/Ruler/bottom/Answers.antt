@@ -1,7 +1,6 @@
 -- The numbers say it.
 use mathlib.Core.Path.{sym, ◌∙◌}
 use Rattle.ruler.proofs.Fair.{scale_bottom}
-use borrow.Author.Rules.{rules}
 use Rattle.ruler.proofs.Ruler.bottom.Goals as goal
 
 pub returns : goal.returns

@@ -1,7 +1,6 @@
 -- So many shares, in whole cells.
 use native.Mathlib.Omega.{arith}
 use Rattle.ruler.proofs.Shares.{from_first, in_word, cell-is, small_cell}
-use borrow.Author.Rules.{rules}
 use Rattle.ruler.proofs.Ruler.bottom_cell.Goals as goal
 
 pub overflow_sub-shares : goal.overflow_sub-shares

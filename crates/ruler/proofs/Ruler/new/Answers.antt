@@ -1,9 +1,7 @@
 -- Where the numbers are in bounds, the ruler keeps what they say.
 use mathlib.Core.Path.{◌≡◌, sym, ◌∙◌}
 use mathlib.Core.Bool.{true, false}
-use borrow.Author.Tests.{not-true, not-false}
 use Rattle.ruler.specs.Ruler.{in_bounds, judge}
-use borrow.Author.Rules.{rules}
 use Rattle.ruler.proofs.Ruler.new.Goals as goal
 
 pub returns-then-not-in_bounds : goal.returns-then-not-in_bounds

@@ -1,6 +1,5 @@
 -- By its kind.
 use Rattle.ruler.specs.Ruler.{first_time_of}
-use borrow.Author.Rules.{rules}
 use Rattle.ruler.proofs.kinds.first_of.Goals as goal
 
 pub returns-in-Bits : goal.returns-in-Bits

@@ -1,6 +1,5 @@
 -- The tests of each kind, joined as in `in_bounds`.
 use Rattle.ruler.specs.Ruler.{in_bounds}
-use borrow.Author.Rules.{rules}
 use Rattle.ruler.proofs.kinds.in_bounds.Goals as goal
 
 pub returns-in-Bits : goal.returns-in-Bits

@@ -3,7 +3,6 @@ use native.Mathlib.Omega.{arith}
 use lib.Pow.{pow_pos}
 use Rattle.ruler.specs.Ruler.{last_time_of}
 use Rattle.ruler.proofs.Fair.{bits_of}
-use borrow.Author.Rules.{rules}
 use Rattle.ruler.proofs.kinds.last_of.Goals as goal
 
 pub power-requires : goal.power-requires

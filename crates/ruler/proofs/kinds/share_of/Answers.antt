@@ -7,7 +7,6 @@ use lib.Pow.{shl_exact}
 use Rattle.lists.proofs.Tests.{to_T}
 use Rattle.ruler.specs.Ruler.{share_of, steps_of, share_bits}
 use Rattle.ruler.proofs.Shares.{sized}
-use borrow.Author.Rules.{rules}
 use Rattle.ruler.proofs.kinds.share_of.Goals as goal
 
 -- the parts of all steps stay in a double word

@@ -2,7 +2,6 @@
 use native.Mathlib.Omega.{arith}
 use Rattle.ruler.specs.Ruler.{span_of}
 use Rattle.ruler.proofs.Fair.{bits_of, spread_of}
-use borrow.Author.Rules.{rules}
 use Rattle.ruler.proofs.kinds.span_of.Goals as goal
 
 pub power-requires : goal.power-requires

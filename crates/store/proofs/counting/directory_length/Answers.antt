@@ -1,7 +1,6 @@
 -- Two halves.
 use Rattle.layout.proofs.Numbers.{halves-length, half_small}
 use native.Mathlib.Omega.{arith}
-use borrow.Author.Rules.{rules}
 use Rattle.store.proofs.counting.directory_length.Goals as goal
 
 pub overflow_mul-result : goal.overflow_mul-result

@@ -2,7 +2,6 @@
 use Rattle.ruler.specs.Ruler.{scale}
 use Rattle.layout.proofs.RulerCells.{fair_ruler, deep-ruler, last_cell_lem}
 use Rattle.store.proofs.CountingWalk.{pieces-held}
-use borrow.Author.Rules.{rules}
 use Rattle.store.proofs.counting.partitions_holding.Goals as goal
 
 pub pieces_to-requires : goal.pieces_to-requires

@@ -11,7 +11,6 @@ use Rattle.layout.proofs.FrameTests.{frame_pass, frame_bounds, frame_length}
 use Rattle.store.specs.declared.frame.Framed.TheVariants.{For}
 use Rattle.store.specs.Framing.{framed_as}
 use Rattle.store.proofs.FrameKnown.{framed_as_lem}
-use borrow.Author.Rules.{rules}
 use Rattle.layout.proofs.RulerCells.{deep-ruler}
 use Rattle.store.proofs.frame.ruler_for.Goals as goal
 

@@ -1,10 +1,9 @@
 -- The loop's invariant: closing what is left closes the whole gap; then the last entry's words are cleared, as a part.
-use mathlib.Core.Path.{◌≡◌, refl, ◌∙◌}
-use Prim.Native.Nat.{◌+◌, ◌-◌, ◌*◌, ◌≤◌}
-use lib.ListN.{length, length-set}
+use mathlib.Core.Path.{refl, ◌∙◌}
+use Prim.Native.Nat.{◌-◌, ◌*◌}
+use lib.ListN.{length-set}
 use borrow.Rule.Slice.PartMut.{same_len_mid}
 use Rattle.layout.specs.Words.{entry_words}
-use Rattle.store.specs.Passes.{closed}
 use Rattle.store.proofs.Gaps.{closed_turn, closed_end}
 use native.Mathlib.Omega.{arith}
 use Rattle.store.proofs.gap.close_gap.Goals as goal

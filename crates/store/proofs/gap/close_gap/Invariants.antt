@@ -1,12 +1,9 @@
 -- The loop's invariant: closing what is left closes the whole gap; then the last entry's words are cleared, as a part.
-use mathlib.Core.Path.{◌≡◌, refl, ◌∙◌}
+use mathlib.Core.Path.{◌≡◌}
 use Prim.Native.Nat.{◌+◌, ◌-◌, ◌*◌, ◌≤◌}
-use lib.ListN.{length, length-set}
-use borrow.Rule.Slice.PartMut.{same_len_mid}
+use lib.ListN.{length}
 use Rattle.layout.specs.Words.{entry_words}
 use Rattle.store.specs.Passes.{closed}
-use Rattle.store.proofs.Gaps.{closed_turn, closed_end}
-use native.Mathlib.Omega.{arith}
 use Rattle.store.proofs.gap.close_gap.Given as goal
 
 abbrev pub invariant-loop-i : goal.invariant-loop-i

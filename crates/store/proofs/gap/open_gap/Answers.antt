@@ -1,7 +1,7 @@
 -- The loop's invariant: opening what is left gives the whole gap.
 use mathlib.Core.Path.{◌≡◌, refl, sym, ap, ◌∙◌}
-use Prim.Native.Nat.{ℕ, ◌+◌, ◌-◌, ◌*◌, ◌≤◌}
-use lib.ListN.{length, length-set}
+use Prim.Native.Nat.{ℕ, ◌+◌, ◌-◌, ◌*◌}
+use lib.ListN.{length-set}
 use Rattle.layout.specs.Words.{entry_words}
 use Rattle.store.specs.Passes.{opened}
 use Rattle.store.proofs.Gaps.{opened_turn, opened_end}

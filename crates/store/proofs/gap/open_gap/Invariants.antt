@@ -1,11 +1,9 @@
 -- The loop's invariant: opening what is left gives the whole gap.
-use mathlib.Core.Path.{◌≡◌, refl, sym, ap, ◌∙◌}
-use Prim.Native.Nat.{ℕ, ◌+◌, ◌-◌, ◌*◌, ◌≤◌}
-use lib.ListN.{length, length-set}
+use mathlib.Core.Path.{◌≡◌}
+use Prim.Native.Nat.{◌*◌, ◌≤◌}
+use lib.ListN.{length}
 use Rattle.layout.specs.Words.{entry_words}
 use Rattle.store.specs.Passes.{opened}
-use Rattle.store.proofs.Gaps.{opened_turn, opened_end}
-use native.Mathlib.Omega.{arith}
 use Rattle.store.proofs.gap.open_gap.Given as goal
 
 abbrev pub invariant-loop-i : goal.invariant-loop-i

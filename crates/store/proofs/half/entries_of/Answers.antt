@@ -4,7 +4,6 @@ use Prim.Native.Nat.{◌-◌}
 use lib.ListN.{length}
 use Rattle.store.specs.Halves.{total}
 use native.Mathlib.Omega.{arith}
-use borrow.Author.Rules.{rules}
 use Rattle.store.proofs.half.entries_of.Goals as goal
 
 pub overflow_cast-result : goal.overflow_cast-result

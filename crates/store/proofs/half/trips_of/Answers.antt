@@ -7,7 +7,6 @@ use Rattle.layout.specs.Words.{partitions, half_length}
 use Rattle.store.specs.Halves.{total}
 use Rattle.store.proofs.Halves.{total_first}
 use native.Mathlib.Omega.{arith}
-use borrow.Author.Rules.{rules}
 use Rattle.store.proofs.half.trips_of.Goals as goal
 
 pub slice_bounds-entries_of-end : goal.slice_bounds-entries_of-end

@@ -3,7 +3,6 @@ use Prim.Native.Nat.{◌-◌}
 use lib.ListN.{length}
 use Rattle.store.specs.Halves.{total}
 use native.Mathlib.Omega.{arith}
-use borrow.Author.Rules.{rules}
 use Rattle.store.proofs.half.words_of.Goals as goal
 
 pub overflow_mul-result : goal.overflow_mul-result

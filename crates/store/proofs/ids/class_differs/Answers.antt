@@ -1,11 +1,8 @@
 -- The ids of the class that are left differ exactly if all of it do.
 use mathlib.Core.Path.{◌≡◌, refl, sym, ap, ◌∙◌}
-use mathlib.Core.List.{List, ◌++◌}
-use Prim.Native.Nat.{ℕ, ◌-◌}
+use mathlib.Core.List.{◌++◌}
 use native.Mathlib.Omega.{arith}
-use lib.ListN.{length}
 use borrow.Author.Rules.{rules}
-use borrow.Author.Tests.{not-true, not-false}
 use Rattle.lists.proofs.Lent.{head_lent}
 use Rattle.layout.specs.Words.{rows}
 use Rattle.layout.proofs.Rows.{length-rows}

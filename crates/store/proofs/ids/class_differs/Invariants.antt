@@ -1,16 +1,9 @@
 -- The ids of the class that are left differ exactly if all of it do.
-use mathlib.Core.Path.{◌≡◌, refl, sym, ap, ◌∙◌}
-use mathlib.Core.List.{List, ◌++◌}
-use Prim.Native.Nat.{ℕ, ◌-◌}
-use native.Mathlib.Omega.{arith}
+use mathlib.Core.Path.{◌≡◌}
+use Prim.Native.Nat.{◌-◌}
 use lib.ListN.{length}
-use borrow.Author.Rules.{rules}
-use borrow.Author.Tests.{not-true, not-false}
-use Rattle.lists.proofs.Lent.{head_lent}
 use Rattle.layout.specs.Words.{rows}
-use Rattle.layout.proofs.Rows.{length-rows}
-use Rattle.store.specs.Ids.{climbs, differ, of_class}
-use Rattle.store.proofs.Classes.{class_none, front_stop, front_all, front_again, front-more, full-room, none_differ}
+use Rattle.store.specs.Ids.{differ, of_class}
 use Rattle.store.proofs.ids.class_differs.Given as goal
 
 abbrev pub invariant-loop-k : goal.invariant-loop-k

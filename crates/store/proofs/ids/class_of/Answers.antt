@@ -1,7 +1,6 @@
 -- The high word of the product.
 use mathlib.Core.Path.{ap}
 use Prim.Native.Nat.{ℕ, ◌/◌}
-use borrow.Author.Rules.{rules}
 use Rattle.store.specs.Entries.{word_end}
 use Rattle.store.specs.Ids.{class_of}
 use Rattle.store.proofs.ids.class_of.Goals as goal

@@ -1,10 +1,8 @@
 -- What is left climbs from the last word on exactly if the whole does.
-use mathlib.Core.Path.{◌≡◌, sym, ◌∙◌}
-use Prim.Native.Nat.{◌-◌}
+use mathlib.Core.Path.{sym, ◌∙◌}
 use native.Mathlib.Nat.{div-le_self}
 use native.Mathlib.Omega.{arith}
-use lib.ListN.{length, drop}
-use Rattle.store.specs.Ids.{climbs_from, climbs, every_step}
+use lib.ListN.{length}
 use Rattle.store.proofs.Differing.{step_inside, steps_none, steps_first, steps_more, steps_stop, steps_end}
 use Rattle.store.proofs.ids.climb.Goals as goal
 

@@ -1,11 +1,8 @@
 -- What is left climbs from the last word on exactly if the whole does.
-use mathlib.Core.Path.{◌≡◌, sym, ◌∙◌}
+use mathlib.Core.Path.{◌≡◌}
 use Prim.Native.Nat.{◌-◌}
-use native.Mathlib.Nat.{div-le_self}
-use native.Mathlib.Omega.{arith}
-use lib.ListN.{length, drop}
+use lib.ListN.{drop}
 use Rattle.store.specs.Ids.{climbs_from, climbs, every_step}
-use Rattle.store.proofs.Differing.{step_inside, steps_none, steps_first, steps_more, steps_stop, steps_end}
 use Rattle.store.proofs.ids.climb.Given as goal
 
 abbrev pub invariant-loop-i : goal.invariant-loop-i

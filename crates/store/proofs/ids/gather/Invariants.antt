@@ -1,11 +1,9 @@
 -- What is left of the class from the first row on is what was gathered, and then what is left.
-use mathlib.Core.Path.{◌≡◌, refl, ◌∙◌}
+use mathlib.Core.Path.{◌≡◌}
 use mathlib.Core.List.{◌++◌}
 use Prim.Native.Nat.{◌+◌, ◌-◌, ◌≤◌}
-use native.Mathlib.Omega.{arith}
 use lib.ListN.{length, take}
 use Rattle.layout.specs.Words.{rows}
-use Rattle.layout.proofs.Rows.{length-rows}
 use Rattle.store.specs.Ids.{of_class}
 use Rattle.store.proofs.ids.gather.Given as goal
 

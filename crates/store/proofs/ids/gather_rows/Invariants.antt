@@ -1,12 +1,10 @@
 -- What the room had, and then the rest of the class, is what it has, and then what is left.
-use mathlib.Core.Path.{◌≡◌, refl}
+use mathlib.Core.Path.{◌≡◌}
 use mathlib.Core.List.{◌++◌}
 use Prim.Native.Nat.{◌+◌, ◌-◌, ◌≤◌}
-use native.Mathlib.Omega.{arith}
-use lib.ListN.{length, take, length-set}
+use lib.ListN.{length, take}
 use Rattle.layout.specs.Words.{rows}
 use Rattle.store.specs.Ids.{of_class}
-use Rattle.store.proofs.Classes.{class_hit, class_miss, gather_hit, gather_miss}
 use Rattle.store.proofs.ids.gather_rows.Given as goal
 
 abbrev pub invariant-loop-k : goal.invariant-loop-k

@@ -1,10 +1,6 @@
 -- Some word so far is the id, or one that is left.
-use mathlib.Core.Path.{◌≡◌, refl, sym, ◌∙◌}
-use mathlib.Core.Bool.{◌||◌}
-use Prim.Native.Nat.{◌-◌}
+use mathlib.Core.Path.{refl, sym, ◌∙◌}
 use native.Mathlib.Omega.{arith}
-use lib.ListN.{length, drop}
-use Rattle.store.specs.Ids.{among}
 use Rattle.store.proofs.Marks.{among_next, among_end}
 use Rattle.store.proofs.ids.has.Goals as goal
 

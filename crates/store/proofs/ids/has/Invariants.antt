@@ -1,11 +1,9 @@
 -- Some word so far is the id, or one that is left.
-use mathlib.Core.Path.{◌≡◌, refl, sym, ◌∙◌}
+use mathlib.Core.Path.{◌≡◌}
 use mathlib.Core.Bool.{◌||◌}
 use Prim.Native.Nat.{◌-◌}
-use native.Mathlib.Omega.{arith}
 use lib.ListN.{length, drop}
 use Rattle.store.specs.Ids.{among}
-use Rattle.store.proofs.Marks.{among_next, among_end}
 use Rattle.store.proofs.ids.has.Given as goal
 
 abbrev pub invariant-loop-i : goal.invariant-loop-i

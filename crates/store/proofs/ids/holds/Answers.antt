@@ -5,7 +5,7 @@ use lib.Dec.{leb}
 use lib.ListN.{get_or}
 use borrow.Author.Rules.{rules}
 use Rattle.store.specs.Ids.{room_length}
-use Rattle.store.proofs.Classes.{Narrowed, narrow_start, narrow_step, narrow_end, passed_most}
+use Rattle.store.proofs.Classes.{narrow_start, narrow_step, narrow_end, passed_most}
 use Rattle.store.proofs.ids.holds.Goals as goal
 
 pub loop-width-init : goal.loop-width-init

@@ -1,13 +1,9 @@
 -- In each class before this one the ids differ.
-use mathlib.Core.Path.{◌≡◌, refl, sym, ap, ◌∙◌}
-use mathlib.Core.Bool.{true}
-use Prim.Native.Nat.{ℕ, ◌-◌, ◌<◌}
+use mathlib.Core.Path.{refl, sym, ap, ◌∙◌}
 use native.Mathlib.Omega.{arith}
-use lib.ListN.{length}
-use borrow.Author.Tests.{not-true, not-false}
 use Rattle.layout.specs.Words.{rows}
 use Rattle.store.specs.Entries.{ids}
-use Rattle.store.specs.Ids.{climbs, ids_differ, differ, room_length, of_class}
+use Rattle.store.specs.Ids.{climbs, ids_differ}
 use Rattle.store.proofs.Differing.{every_id, climbs-differ}
 use Rattle.store.proofs.Classes.{class_more, class_stop, classes_end}
 use Rattle.store.proofs.ids.ids_differ.Goals as goal

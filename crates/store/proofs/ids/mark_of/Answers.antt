@@ -1,7 +1,6 @@
 -- The highest bits of the low word of the product.
 use mathlib.Core.Path.{ap}
 use Prim.Native.Nat.{ℕ, ◌/◌, ◌%◌}
-use borrow.Author.Rules.{rules}
 use Rattle.store.specs.Entries.{word_end}
 use Rattle.store.specs.Marks.{mark_share, mark_of}
 use Rattle.store.proofs.ids.mark_of.Goals as goal

@@ -1,10 +1,7 @@
 -- What is left is apart from the room exactly if all is.
-use mathlib.Core.Path.{◌≡◌, refl, sym, ap, ◌∙◌}
-use Prim.Native.Nat.{◌-◌}
+use mathlib.Core.Path.{refl, sym, ap, ◌∙◌}
 use native.Mathlib.Omega.{arith}
-use borrow.Author.Rules.{rules}
-use Rattle.layout.specs.Words.{rows}
-use Rattle.store.specs.Ids.{apart, of_class}
+use Rattle.store.specs.Ids.{apart}
 use Rattle.store.proofs.Classes.{class_hit, class_miss, class_none, apart_more, apart_stop, apart_none}
 use Rattle.store.proofs.ids.none_again.Goals as goal
 

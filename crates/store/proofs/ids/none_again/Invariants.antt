@@ -1,11 +1,8 @@
 -- What is left is apart from the room exactly if all is.
-use mathlib.Core.Path.{◌≡◌, refl, sym, ap, ◌∙◌}
+use mathlib.Core.Path.{◌≡◌}
 use Prim.Native.Nat.{◌-◌}
-use native.Mathlib.Omega.{arith}
-use borrow.Author.Rules.{rules}
 use Rattle.layout.specs.Words.{rows}
 use Rattle.store.specs.Ids.{apart, of_class}
-use Rattle.store.proofs.Classes.{class_hit, class_miss, class_none, apart_more, apart_stop, apart_none}
 use Rattle.store.proofs.ids.none_again.Given as goal
 
 abbrev pub invariant-loop-k : goal.invariant-loop-k

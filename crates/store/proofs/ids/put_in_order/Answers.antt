@@ -1,6 +1,5 @@
 -- All words are put in order and read again.
 use mathlib.Core.Path.{ap, ◌∙◌}
-use borrow.Author.Rules.{rules}
 use Rattle.store.specs.Ids.{climbs}
 use Rattle.store.proofs.Differing.{every_word}
 use Rattle.store.proofs.ids.put_in_order.Goals as goal

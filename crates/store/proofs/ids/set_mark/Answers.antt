@@ -2,7 +2,6 @@
 use mathlib.Core.Path.{refl}
 use Prim.Native.Nat.{◌%◌}
 use native.Mathlib.Omega.{arith}
-use borrow.Author.Rules.{rules}
 use Rattle.ruler.proofs.Shift.{one_shl}
 use Rattle.store.specs.Marks.{word_bits, marked, with_mark}
 use Rattle.store.proofs.ids.set_mark.Goals as goal

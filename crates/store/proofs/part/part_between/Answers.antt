@@ -2,7 +2,6 @@
 use mathlib.Core.Path.{sym, ◌∙◌}
 use Rattle.store.specs.Parts.{part_in}
 use Rattle.store.proofs.Parts.{inside-there}
-use borrow.Author.Rules.{rules}
 use Rattle.store.proofs.part.part_between.Goals as goal
 
 pub part_there-requires : goal.part_there-requires

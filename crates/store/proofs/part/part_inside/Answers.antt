@@ -1,6 +1,5 @@
 -- The two words are read from any directory.
 use native.Mathlib.Omega.{arith}
-use borrow.Author.Rules.{rules}
 use Rattle.store.proofs.part.part_inside.Goals as goal
 
 pub overflow_cast-first : goal.overflow_cast-first

@@ -1,7 +1,6 @@
 -- The two words are in the directory, and the part in the arena.
 use mathlib.Core.Path.{refl}
 use Rattle.store.specs.Parts.{part_words}
-use borrow.Author.Rules.{rules}
 use Rattle.store.proofs.part.part_there.Goals as goal
 
 pub returns : goal.returns

@@ -12,7 +12,6 @@ use Rattle.layout.proofs.RulerCells.{fair_ruler, deep-ruler, first_cell_lem, las
 use Rattle.store.specs.Homes.{home_level, home, home_at}
 use Rattle.store.proofs.Homes.{level_deep, place_there}
 use native.Mathlib.Omega.{arith}
-use borrow.Author.Rules.{rules}
 use Rattle.store.proofs.places.home.Goals as goal
 
 -- its slot, from what the code finds in turn

@@ -6,7 +6,6 @@ use lib.Count.{trailing_le}
 use lib.Pow.{pow_mono}
 use Rattle.store.proofs.Homes.{home_level_is}
 use native.Mathlib.Omega.{arith}
-use borrow.Author.Rules.{rules}
 use Rattle.store.proofs.places.home_level.Goals as goal
 
 pub levels_begun-begun-requires : goal.levels_begun-begun-requires

@@ -2,7 +2,6 @@
 use mathlib.Core.Path.{refl}
 use Rattle.store.specs.TripWalk.{slots_of_trip}
 use Rattle.layout.proofs.RulerCells.{deep-ruler, first_cell_lem, last_cell_lem}
-use borrow.Author.Rules.{rules}
 use Rattle.store.proofs.places.replica_slots.Goals as goal
 
 pub slots_of-requires : goal.slots_of-requires

@@ -2,7 +2,6 @@
 use lib.Pow.{pow_mono}
 use Rattle.layout.specs.Words.{slot_number, partition_number}
 use native.Mathlib.Omega.{arith}
-use borrow.Author.Rules.{rules}
 use Rattle.store.proofs.places.slot_number.Goals as goal
 
 pub slot_of-requires : goal.slot_of-requires

@@ -2,8 +2,7 @@
 use mathlib.Core.Path.{◌∙◌}
 use Prim.Native.Nat.{◌≤◌, ◌<◌}
 use borrow.Author.Tests.{leb-true, leb-false}
-use Rattle.store.specs.TripWalk.{slots_of}
-use Rattle.store.proofs.Walking.{Going, going_start, going_level, going_none, going_turn, going_end, wrote_long}
+use Rattle.store.proofs.Walking.{going_start, going_level, going_none, going_turn, going_end, wrote_long}
 use native.Mathlib.Omega.{arith}
 use Rattle.store.proofs.places.slots_of.Goals as goal
 

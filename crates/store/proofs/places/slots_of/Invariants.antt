@@ -1,10 +1,6 @@
 -- What is written and the rest of the walk are the whole walk.
-use mathlib.Core.Path.{◌∙◌}
-use Prim.Native.Nat.{◌≤◌, ◌<◌}
-use borrow.Author.Tests.{leb-true, leb-false}
 use Rattle.store.specs.TripWalk.{slots_of}
-use Rattle.store.proofs.Walking.{Going, going_start, going_level, going_none, going_turn, going_end, wrote_long}
-use native.Mathlib.Omega.{arith}
+use Rattle.store.proofs.Walking.{Going}
 use Rattle.store.proofs.places.slots_of.Given as goal
 
 abbrev pub invariant-loop-half : goal.invariant-loop-half

@@ -4,7 +4,6 @@ use Rattle.layout.proofs.RulerCells.{fair_ruler}
 use Rattle.store.proofs.Walking.{set_first}
 use Rattle.store.proofs.Homes.{one_home}
 use native.Mathlib.Omega.{arith}
-use borrow.Author.Rules.{rules}
 use Rattle.store.proofs.places.trip_slots.Goals as goal
 
 pub returns-in-Originals : goal.returns-in-Originals

@@ -2,7 +2,6 @@
 use borrow.Author.Tests.{not-true, not-false}
 use Rattle.store.specs.TripWalk.{visit}
 use native.Mathlib.Omega.{arith}
-use borrow.Author.Rules.{rules}
 use Rattle.store.proofs.places.visited.Goals as goal
 
 pub returns-then-not-test : goal.returns-then-not-test

@@ -4,7 +4,6 @@ use Rattle.store.proofs.TripWalk.{visit-few}
 use Rattle.store.specs.TripSlots.{visits_at}
 use Rattle.store.proofs.Walking.{wrote_long, wrote_both}
 use native.Mathlib.Omega.{arith}
-use borrow.Author.Rules.{rules}
 use Rattle.store.proofs.places.visited_at.Goals as goal
 
 pub visited-requires : goal.visited-requires

@@ -1,11 +1,8 @@
 -- The loop's invariant is `Meeting`: the rows before low come before the trip, and those from high on do not.
 use mathlib.Core.Path.{sym, ◌∙◌}
-use Prim.Native.Nat.{◌+◌, ◌-◌, ◌/◌, ◌≤◌}
-use lib.ListN.{length}
-use Rattle.layout.specs.Words.{entry_words}
-use Rattle.store.proofs.Found.{Meeting, search_start, search_up, search_down, search_end}
+use Prim.Native.Nat.{◌+◌, ◌-◌, ◌/◌}
+use Rattle.store.proofs.Found.{search_start, search_up, search_down, search_end}
 use native.Mathlib.Omega.{arith}
-use borrow.Author.Rules.{rules}
 use Rattle.store.proofs.search.find_place.Goals as goal
 
 pub loop-low-init : goal.loop-low-init

@@ -2,7 +2,6 @@
 use mathlib.Core.Path.{refl}
 use Rattle.store.proofs.Slots.{RoomWords, room-words, room-inserted}
 use native.Mathlib.Omega.{arith}
-use borrow.Author.Rules.{rules}
 use Rattle.store.proofs.slot.insert.Goals as goal
 
 pub overflow_sub-last : goal.overflow_sub-last

@@ -2,7 +2,6 @@
 use mathlib.Core.Path.{refl}
 use Rattle.store.proofs.Slots.{ThereWords, there-words, there-removed}
 use native.Mathlib.Omega.{arith}
-use borrow.Author.Rules.{rules}
 use Rattle.store.proofs.slot.remove.Goals as goal
 
 pub overflow_sub-last : goal.overflow_sub-last

@@ -1,5 +1,4 @@
 -- The code, and the window of the two times.
-use borrow.Author.Rules.{rules}
 use Rattle.trip.proofs.Asking.of.Goals as goal
 
 pub returns : goal.returns

@@ -1,6 +1,5 @@
 -- All words are compared.
 use Rattle.trip.specs.Trips.{same_trip}
-use borrow.Author.Rules.{rules}
 use Rattle.trip.proofs.Trip.same.Goals as goal
 
 pub returns : goal.returns

@@ -1,5 +1,4 @@
 -- Each word has its place.
-use borrow.Author.Rules.{rules}
 use Rattle.trip.proofs.Window.of.Goals as goal
 
 pub returns : goal.returns

@@ -1,6 +1,5 @@
 -- The count is that of the looks passed.
 use mathlib.Core.Path.{◌≡◌, sym, ap, ◌∙◌}
-use Prim.Native.Nat.{◌-◌, ◌≤◌}
 use lib.ListN.{length, length-append}
 use Rattle.lists.specs.Lists.{joined}
 use Rattle.plan.specs.Sought.{is_sought}
@@ -8,7 +7,6 @@ use Rattle.walk.specs.Levels.{level_look, looks_to}
 use Rattle.walk.proofs.MatchesJoined.{row_more}
 use Rattle.walk.proofs.LooksMeet.{look_seen, none_before, none_after, from_to, originals_in, replicas_in, next-there, look-room}
 use native.Mathlib.Omega.{arith}
-use borrow.Author.Rules.{rules}
 use Rattle.walk.proofs.count.count_level.Goals as goal
 
 pub looks_to-to-requires : goal.looks_to-to-requires

@@ -1,16 +1,14 @@
 -- The count is that of the levels passed; each level's stretches are there, and the count of all is small.
 use mathlib.Core.Path.{◌≡◌, sym, ap, ◌∙◌}
 use mathlib.Core.List.{List}
-use Prim.Native.Nat.{ℕ, ◌+◌, ◌-◌, ◌≤◌}
+use Prim.Native.Nat.{ℕ, ◌+◌, ◌-◌}
 use lib.ListN.{length, length-append}
-use Rattle.lists.specs.Lists.{joined}
 use Rattle.trip.specs.declared.Trip.{Trip}
 use Rattle.plan.specs.Sought.{is_sought}
 use Rattle.plan.specs.Plan.{stretches_at}
 use Rattle.walk.specs.Levels.{level_up}
 use Rattle.walk.proofs.MatchesJoined.{row_none, row_more, row_room}
 use native.Mathlib.Omega.{arith}
-use borrow.Author.Rules.{rules}
 use Rattle.walk.proofs.count.count_levels.Goals as goal
 
 pub loop-up-init : goal.loop-up-init

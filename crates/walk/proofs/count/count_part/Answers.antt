@@ -1,15 +1,12 @@
 -- The count is that of the matches among the entries passed.
 use mathlib.Core.Path.{◌≡◌, sym, ap, ◌∙◌}
 use mathlib.Core.Bool.{true, false}
-use mathlib.Core.Logic.{⊎_elim}
-use Prim.Native.Nat.{◌-◌, ◌≤◌}
 use lib.ListN.{length}
 use Rattle.lists.proofs.Kept.{kept_few}
 use Rattle.layout.specs.Words.{trip_at}
 use Rattle.plan.specs.Sought.{is_sought}
-use Rattle.walk.proofs.PartTurns.{found, found_none, found_all, count_hit, count_miss}
+use Rattle.walk.proofs.PartTurns.{found_none, found_all, count_hit, count_miss}
 use native.Mathlib.Omega.{arith}
-use borrow.Author.Rules.{rules}
 use Rattle.walk.proofs.count.count_part.Goals as goal
 use Rattle.walk.proofs.count.count_part.Goals.{then-has, else-has}
 

@@ -1,7 +1,6 @@
 -- By the order that is named; where it is of no time, or there are few entries, nothing is cut.
 use borrow.Author.Tests.{le-leb, lt-leb}
 use Rattle.walk.specs.Cut.{cut_of}
-use borrow.Author.Rules.{rules}
 use Rattle.walk.proofs.cut.cut.Goals as goal
 
 pub returns-then-part : goal.returns-then-part

@@ -1,13 +1,11 @@
 -- What is earlier stands before what is not; the two meet where the search ends.
 use mathlib.Core.Path.{◌≡◌}
 use mathlib.Core.Bool.{true, false}
-use Prim.Native.Nat.{◌+◌, ◌-◌, ◌/◌, ◌≤◌}
-use lib.ListN.{length}
-use Rattle.layout.specs.Words.{entry_words, trip_at}
+use Prim.Native.Nat.{◌+◌, ◌-◌, ◌/◌}
+use Rattle.layout.specs.Words.{trip_at}
 use Rattle.walk.specs.Cut.{earlier_than}
-use Rattle.walk.proofs.Searched.{Meeting, search_start, search_up, search_down, search_end}
+use Rattle.walk.proofs.Searched.{search_start, search_up, search_down, search_end}
 use native.Mathlib.Omega.{arith}
-use borrow.Author.Rules.{rules}
 use Rattle.walk.proofs.cut.entries_before.Goals as goal
 
 pub loop-lo-init : goal.loop-lo-init

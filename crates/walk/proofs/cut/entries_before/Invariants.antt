@@ -1,13 +1,8 @@
 -- What is earlier stands before what is not; the two meet where the search ends.
-use mathlib.Core.Path.{◌≡◌}
-use mathlib.Core.Bool.{true, false}
-use Prim.Native.Nat.{◌+◌, ◌-◌, ◌/◌, ◌≤◌}
+use Prim.Native.Nat.{◌-◌, ◌/◌, ◌≤◌}
 use lib.ListN.{length}
-use Rattle.layout.specs.Words.{entry_words, trip_at}
-use Rattle.walk.specs.Cut.{earlier_than}
-use Rattle.walk.proofs.Searched.{Meeting, search_start, search_up, search_down, search_end}
-use native.Mathlib.Omega.{arith}
-use borrow.Author.Rules.{rules}
+use Rattle.layout.specs.Words.{entry_words}
+use Rattle.walk.proofs.Searched.{Meeting}
 use Rattle.walk.proofs.cut.entries_before.Given as goal
 
 abbrev pub invariant-loop-lo : goal.invariant-loop-lo

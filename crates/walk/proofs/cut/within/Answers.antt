@@ -1,7 +1,6 @@
 -- The entries in front are too early, those behind too late, and those between in time.
 use Rattle.walk.proofs.Searched.{within-is}
 use native.Mathlib.Omega.{arith}
-use borrow.Author.Rules.{rules}
 use Rattle.walk.proofs.cut.within.Goals as goal
 
 pub returns-then-hi-lo : goal.returns-then-hi-lo

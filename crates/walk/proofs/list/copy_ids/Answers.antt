@@ -1,14 +1,11 @@
 -- The ids of those among the entries passed that run stand in the list's first words.
-use mathlib.Core.Path.{◌≡◌, refl, ap, ◌∙◌}
-use Prim.Native.Nat.{◌-◌, ◌≤◌}
+use mathlib.Core.Path.{refl, ap, ◌∙◌}
 use lib.ListN.{length}
 use Rattle.trip.specs.declared.Trip.{Trip}
 use Rattle.trip.specs.Trips.{runs_on_any}
-use Rattle.walk.specs.Part.{Listed}
 use Rattle.walk.proofs.Written.{listed-none}
-use Rattle.walk.proofs.PartTurns.{found, found_none, found_all, turn_room, turn_listed, put-length}
+use Rattle.walk.proofs.PartTurns.{found_none, found_all, turn_room, turn_listed, put-length}
 use native.Mathlib.Omega.{arith}
-use borrow.Author.Rules.{rules}
 use Rattle.walk.proofs.list.copy_ids.Goals as goal
 
 pub loop-i-init : goal.loop-i-init

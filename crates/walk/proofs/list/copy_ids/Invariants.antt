@@ -1,14 +1,10 @@
 -- The ids of those among the entries passed that run stand in the list's first words.
-use mathlib.Core.Path.{◌≡◌, refl, ap, ◌∙◌}
+use mathlib.Core.Path.{◌≡◌}
 use Prim.Native.Nat.{◌-◌, ◌≤◌}
 use lib.ListN.{length}
-use Rattle.trip.specs.declared.Trip.{Trip}
 use Rattle.trip.specs.Trips.{runs_on_any}
 use Rattle.walk.specs.Part.{Listed}
-use Rattle.walk.proofs.Written.{listed-none}
-use Rattle.walk.proofs.PartTurns.{found, found_none, found_all, turn_room, turn_listed, put-length}
-use native.Mathlib.Omega.{arith}
-use borrow.Author.Rules.{rules}
+use Rattle.walk.proofs.PartTurns.{found}
 use Rattle.walk.proofs.list.copy_ids.Given as goal
 
 abbrev pub invariant-loop-i : goal.invariant-loop-i

@@ -1,10 +1,7 @@
 -- The ids of the looks passed stand in the list's first words; each look lists into the rest.
 use mathlib.Core.Path.{◌≡◌, refl, ap}
-use Prim.Native.Nat.{◌-◌, ◌≤◌}
 use lib.ListN.{length}
-use Rattle.lists.specs.Lists.{joined}
 use Rattle.plan.specs.Sought.{is_sought}
-use Rattle.walk.specs.Part.{Listed}
 use Rattle.walk.specs.Levels.{level_look, looks_to}
 use Rattle.walk.proofs.Written.{lent_room, lent_back, listed-none, listed-length, listed_more}
 use Rattle.walk.proofs.MatchesJoined.{row_more}

@@ -1,16 +1,11 @@
 -- The ids of the looks passed stand in the list's first words; each look lists into the rest.
-use mathlib.Core.Path.{◌≡◌, refl, ap}
+use mathlib.Core.Path.{◌≡◌}
 use Prim.Native.Nat.{◌-◌, ◌≤◌}
 use lib.ListN.{length}
 use Rattle.lists.specs.Lists.{joined}
 use Rattle.plan.specs.Sought.{is_sought}
 use Rattle.walk.specs.Part.{Listed}
 use Rattle.walk.specs.Levels.{level_look, looks_to}
-use Rattle.walk.proofs.Written.{lent_room, lent_back, listed-none, listed-length, listed_more}
-use Rattle.walk.proofs.MatchesJoined.{row_more}
-use Rattle.walk.proofs.LooksMeet.{look_seen, none_before, none_after, from_to, originals_in, replicas_in, next-there, look-room, look-fits}
-use native.Mathlib.Omega.{arith}
-use borrow.Author.Rules.{rules}
 use Rattle.walk.proofs.list.list_level.Given as goal
 
 abbrev pub invariant-loop-k : goal.invariant-loop-k

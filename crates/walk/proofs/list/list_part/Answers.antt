@@ -1,6 +1,5 @@
 -- Those that run, by the id copier, or those that pass.
 use Rattle.plan.specs.Sought.{is_sought}
-use borrow.Author.Rules.{rules}
 use Rattle.walk.proofs.list.list_part.Goals as goal
 
 pub copy_ids-requires : goal.copy_ids-requires

@@ -1,15 +1,12 @@
 -- The ids of the matches among the entries passed stand in the list's first words.
-use mathlib.Core.Path.{◌≡◌, refl, ap, ◌∙◌}
+use mathlib.Core.Path.{refl, ap, ◌∙◌}
 use mathlib.Core.Bool.{false}
-use Prim.Native.Nat.{◌-◌, ◌≤◌}
 use lib.ListN.{length}
 use Rattle.trip.specs.declared.Trip.{Trip}
 use Rattle.plan.specs.Sought.{is_sought}
-use Rattle.walk.specs.Part.{Listed}
 use Rattle.walk.proofs.Written.{listed-none}
-use Rattle.walk.proofs.PartTurns.{found, found_none, found_all, turn_room, turn_listed, put-length}
+use Rattle.walk.proofs.PartTurns.{found_none, found_all, turn_room, turn_listed, put-length}
 use native.Mathlib.Omega.{arith}
-use borrow.Author.Rules.{rules}
 use Rattle.walk.proofs.list.list_tested.Goals as goal
 
 pub loop-i-init : goal.loop-i-init

@@ -1,15 +1,11 @@
 -- The ids of the matches among the entries passed stand in the list's first words.
-use mathlib.Core.Path.{◌≡◌, refl, ap, ◌∙◌}
+use mathlib.Core.Path.{◌≡◌}
 use mathlib.Core.Bool.{false}
 use Prim.Native.Nat.{◌-◌, ◌≤◌}
 use lib.ListN.{length}
-use Rattle.trip.specs.declared.Trip.{Trip}
 use Rattle.plan.specs.Sought.{is_sought}
 use Rattle.walk.specs.Part.{Listed}
-use Rattle.walk.proofs.Written.{listed-none}
-use Rattle.walk.proofs.PartTurns.{found, found_none, found_all, turn_room, turn_listed, put-length}
-use native.Mathlib.Omega.{arith}
-use borrow.Author.Rules.{rules}
+use Rattle.walk.proofs.PartTurns.{found}
 use Rattle.walk.proofs.list.list_tested.Given as goal
 
 abbrev pub invariant-loop-i : goal.invariant-loop-i

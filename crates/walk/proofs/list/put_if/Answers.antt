@@ -1,7 +1,6 @@
 -- By what the test says.
 use mathlib.Core.Path.{refl}
 use native.Mathlib.Omega.{arith}
-use borrow.Author.Rules.{rules}
 use Rattle.walk.proofs.list.put_if.Goals as goal
 
 pub offset_bounds-out-at : goal.offset_bounds-out-at

@@ -1,7 +1,6 @@
 -- By whether the two words are the same.
 use borrow.Author.Tests.{eq-eqb, ne_eqb}
 use Rattle.walk.specs.Levels.{looks_to}
-use borrow.Author.Rules.{rules}
 use Rattle.walk.proofs.look.looks_to.Goals as goal
 
 pub returns-then-directory-from : goal.returns-then-directory-from

@@ -8,7 +8,6 @@ use Rattle.plan.specs.declared.looks.Look.{Look}
 use Rattle.store.specs.Parts.{arena_of, part_words}
 use Rattle.walk.specs.Levels.{look_words, part_of}
 use Rattle.walk.specs.Cut.{cut_of}
-use borrow.Author.Rules.{rules}
 use Rattle.walk.proofs.look.part_of.Goals as goal
 
 -- the part is the look's

@@ -1,6 +1,5 @@
 -- The two tests are the definition's.
 use Rattle.plan.specs.Bounds.{inside}
-use borrow.Author.Rules.{rules}
 use Rattle.plan.proofs.bounds.Bounds.hold.Goals as goal
 
 pub returns : goal.returns

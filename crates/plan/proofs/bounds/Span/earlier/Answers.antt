@@ -1,5 +1,4 @@
 -- Field by field, as the definition has it.
-use borrow.Author.Rules.{rules}
 use Rattle.plan.proofs.bounds.Span.earlier.Goals as goal
 
 pub returns : goal.returns

@@ -1,5 +1,4 @@
 -- By whether the test passes.
-use borrow.Author.Rules.{rules}
 use Rattle.plan.proofs.bounds.Span.exactly_if.Goals as goal
 
 pub returns-then-test : goal.returns-then-test

@@ -1,6 +1,5 @@
 -- The two tests are the definition's.
 use Rattle.plan.specs.Bounds.{has}
-use borrow.Author.Rules.{rules}
 use Rattle.plan.proofs.bounds.Span.has.Goals as goal
 
 pub returns : goal.returns

@@ -1,6 +1,5 @@
 -- On one of the days, and within the bounds, where that is not sure.
 use Rattle.plan.specs.Sought.{is_sought}
-use borrow.Author.Rules.{rules}
 use Rattle.plan.proofs.sought.Sought.has.Goals as goal
 
 pub returns-then-sure : goal.returns-then-sure
