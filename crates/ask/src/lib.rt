@@ -42,7 +42,7 @@ fn room_for<'a>(
     room: usize,
 ) -> Outcome
     requires levels_there { LevelsThere directory.now originals.now replicas.now plan }
-    requires plan_len_bound { (length (walk_matches (is_sought sought) directory.now originals.now replicas.now plan) ≤ trips)
+    requires few_matches { (length (walk_matches (is_sought sought) directory.now originals.now replicas.now plan) ≤ trips)
         × (trips ≤ most_trips) }
     ensures { result ≡ room_test
         (length (walk_matches (is_sought sought) directory.now originals.now replicas.now plan))
@@ -71,7 +71,7 @@ fn listed<'a>(
     answers: &mut [u32],
 ) -> Answered
     requires made { Made ruler }
-    requires replicas_value { is_index (scale ruler) (index directory.now originals.now replicas.now) ≡ true }
+    requires indexed { is_index (scale ruler) (index directory.now originals.now replicas.now) ≡ true }
     requires on_ruler { OnRuler (scale ruler) question.window.start question.window.end × (question.day ≤ last_day) }
     ensures { asked result.outcome result.count answers.new
         ≡ listed_of (answer question (table_of (scale ruler) (index directory.now originals.now replicas.now)))
@@ -122,7 +122,7 @@ fn answer_to<'a>(
     answers: &mut [u32],
 ) -> Answered
     requires made { Made ruler }
-    requires replicas_value { is_index (scale ruler) (index directory.now originals.now replicas.now) ≡ true }
+    requires indexed { is_index (scale ruler) (index directory.now originals.now replicas.now) ≡ true }
     ensures { asked result.outcome result.count answers.new
         ≡ answer_of (scale ruler) (table_of (scale ruler) (index directory.now originals.now replicas.now))
         asking answers.old }

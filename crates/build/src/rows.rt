@@ -32,9 +32,9 @@ fn id_before(table: &[u32], i: usize, id: u32) -> bool
 
 // The same of row i's own id: the earlier rows are looked through only where some id stands twice.
 fn id_taken(table: &[u32], i: usize, id: u32, differ: bool) -> bool
-    requires i_in_bounds { i < length table.now / entry_words }
-    requires id_value { id ≡ (trip_at table.now i).id }
-    requires differ_value { differ ≡ ids_differ (rows table.now) }
+    requires row_there { i < length table.now / entry_words }
+    requires own_id { id ≡ (trip_at table.now i).id }
+    requires told_apart { differ ≡ ids_differ (rows table.now) }
     ensures { result ≡ has_id id (rows_back table.now i) }
 {
     if differ {
@@ -46,8 +46,8 @@ fn id_taken(table: &[u32], i: usize, id: u32, differ: bool) -> bool
 // The tests of row i.
 fn outcome_at(ruler: Ruler, table: &[u32], i: usize, differ: bool) -> Outcome
     requires made { Made ruler }
-    requires i_in_bounds { (i < length table.now / entry_words) × (length table.now / entry_words ≤ most_trips) }
-    requires differ_value { differ ≡ ids_differ (rows table.now) }
+    requires row_there { (i < length table.now / entry_words) × (length table.now / entry_words ≤ most_trips) }
+    requires told_apart { differ ≡ ids_differ (rows table.now) }
     ensures { result ≡ row_tests (scale ruler) (rows_back table.now i) (trip_at table.now i) i Outcome.Accepted }
 {
     let t = trip_at(table, i);
@@ -58,8 +58,8 @@ fn outcome_at(ruler: Ruler, table: &[u32], i: usize, differ: bool) -> Outcome
 // The first bad row decides.
 fn first_bad_row(ruler: Ruler, table: &[u32], differ: bool) -> Outcome
     requires made { Made ruler }
-    requires entry_words_len_bound { length table.now / entry_words ≤ most_trips }
-    requires differ_value { differ ≡ ids_differ (rows table.now) }
+    requires few_rows { length table.now / entry_words ≤ most_trips }
+    requires told_apart { differ ≡ ids_differ (rows table.now) }
     ensures { result ≡ first_bad_row (scale ruler) 0 [] (rows table.now) Outcome.Accepted }
 {
     let n = table.len() / ENTRY_WORDS;
@@ -77,7 +77,7 @@ fn first_bad_row(ruler: Ruler, table: &[u32], differ: bool) -> Outcome
 // The tests of all rows.
 pub fn rows_outcome(ruler: Ruler, table: &[u32]) -> Outcome
     requires made { Made ruler }
-    requires entry_words_len_bound { length table.now / entry_words ≤ most_trips }
+    requires few_rows { length table.now / entry_words ≤ most_trips }
     ensures { result ≡ first_bad_row (scale ruler) 0 [] (rows table.now) Outcome.Accepted }
 {
     let differ = ids_differ(table);

@@ -25,7 +25,7 @@ mod tests;
 // Writes an addition that is accepted: first the originals with their half of the directory, then the replicas.
 fn put_in(ruler: Ruler, directory: &mut [u32], originals: &mut [u32], replicas: &mut [u32], t: Trip)
     requires made { Made ruler }
-    requires t_value { add_outcome (scale ruler) (index directory.old originals.old replicas.old) t ≡ Outcome.Accepted }
+    requires accepted { add_outcome (scale ruler) (index directory.old originals.old replicas.old) t ≡ Outcome.Accepted }
     ensures { index directory.new originals.new replicas.new
         ≡ layout (scale ruler) (t ∷ table_of (scale ruler) (index directory.old originals.old replicas.old))
         (lengths_of (index directory.old originals.old replicas.old)) }
@@ -57,8 +57,8 @@ fn take_out(
     t: Trip,
 )
     requires made { Made ruler }
-    requires id_value { remove_outcome (scale ruler) (index directory.old originals.old replicas.old) t.id ≡ Outcome.Accepted }
-    requires fact { Memᴰ t (table_of (scale ruler) (index directory.old originals.old replicas.old)) }
+    requires accepted { remove_outcome (scale ruler) (index directory.old originals.old replicas.old) t.id ≡ Outcome.Accepted }
+    requires listed { Memᴰ t (table_of (scale ruler) (index directory.old originals.old replicas.old)) }
     ensures { index directory.new originals.new replicas.new
         ≡ layout (scale ruler)
         (without t.id (table_of (scale ruler) (index directory.old originals.old replicas.old)))
@@ -91,7 +91,7 @@ fn add_checked(
     t: Trip,
 ) -> Outcome
     requires made { Made ruler }
-    requires replicas_value { check_outcome (scale ruler) (index directory.old originals.old replicas.old) ≡ Outcome.Accepted }
+    requires checked { check_outcome (scale ruler) (index directory.old originals.old replicas.old) ≡ Outcome.Accepted }
     ensures { after result (index directory.new originals.new replicas.new)
         ≡ add_of (scale ruler) (index directory.old originals.old replicas.old) t }
 {
@@ -112,7 +112,7 @@ fn remove_checked(
     id: u32,
 ) -> Outcome
     requires made { Made ruler }
-    requires replicas_value { check_outcome (scale ruler) (index directory.old originals.old replicas.old) ≡ Outcome.Accepted }
+    requires checked { check_outcome (scale ruler) (index directory.old originals.old replicas.old) ≡ Outcome.Accepted }
     ensures { after result (index directory.new originals.new replicas.new)
         ≡ remove_of (scale ruler) (index directory.old originals.old replicas.old) id }
 {

@@ -68,7 +68,7 @@ pub fn add_outcome(
     t: Trip,
 ) -> Outcome
     requires made { Made ruler }
-    requires replicas_value { check_outcome (scale ruler) (index directory.now originals.now replicas.now) ≡ Outcome.Accepted }
+    requires checked { check_outcome (scale ruler) (index directory.now originals.now replicas.now) ≡ Outcome.Accepted }
     ensures { result ≡ add_outcome (scale ruler) (index directory.now originals.now replicas.now) t }
 {
     let trips = trips_of(ruler.bottom(), directory);

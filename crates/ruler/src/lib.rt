@@ -290,7 +290,7 @@ impl Ruler {
     // The level-m cell of a time.
     pub fn bottom_cell(self, t: Time) -> Cell
         requires made { Made self }
-        requires t { T ((scale self).has t) }
+        requires on_ruler { T ((scale self).has t) }
         ensures { result ≡ bottom_cell (scale self) t }
     {
         let shares = (t.0 - self.first) as u64 * self.share;

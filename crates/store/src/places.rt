@@ -63,7 +63,7 @@ fn visited(
     last: Cell,
 ) -> usize
     requires n_in_bounds { (n < length spots.old) × (partition.0 ≤ deepest) × (partition.1 ≤ 2 ^ partition.0) }
-    requires first_value { (first.0 ≡ partition.0) × (last.0 ≡ partition.0) }
+    requires same_level { (first.0 ≡ partition.0) × (last.0 ≡ partition.0) }
     ensures { Wrote (visit half test partition.0 partition.1 first.1 last.1) spots.old n result spots.new }
 {
     if !test {

@@ -14,7 +14,7 @@ use store::entry::trip_at;
 // Whether n is the number of partitions that hold the trips of a part, which are known to fit.
 pub fn counts_to(ruler: Ruler, n: usize, part: &[u32]) -> bool
     requires made { Made ruler }
-    requires entry_words_len_bound { (length part.now / entry_words ≤ most_trips) × (each (fits (scale ruler)) (rows part.now) ≡ true) }
+    requires fitting_rows { (length part.now / entry_words ≤ most_trips) × (each (fits (scale ruler)) (rows part.now) ≡ true) }
     ensures { result ≡ counts_to (scale ruler) n (rows part.now) }
 {
     let trips = part.len() / ENTRY_WORDS;

@@ -63,7 +63,7 @@ pub fn half_ok(dir: &[u32], arena: &[u32]) -> bool
 fn in_row(ruler: Ruler, d: Subdivision, frame: Frame, part: &[u32], n: usize) -> bool
     requires made { Made ruler }
     requires frame_at { FrameAt (scale ruler).m frame }
-    requires n_value { (n ≡ length part.now / entry_words) × (0 < n) }
+    requires counted { (n ≡ length part.now / entry_words) × (0 < n) }
     ensures { result ≡ in_row (stands_in (scale ruler) frame) (order d) (rows part.now) }
 {
     if !stands(ruler, frame, trip_at(part, 0)) {
@@ -109,7 +109,7 @@ fn slot_at(ruler: Ruler, half: Half, partition: Cell, dir: &[u32], arena: &[u32]
 fn level_ok(ruler: Ruler, half: Half, level: u32, dir: &[u32], arena: &[u32]) -> bool
     requires made { Made ruler × (level ≤ (scale ruler).m) }
     requires dir_len { length dir.now ≡ half_length (scale ruler).m }
-    requires arena_value { half_ok dir.now arena.now ≡ true }
+    requires half_passed { half_ok dir.now arena.now ≡ true }
     ensures { result ≡ level_ok (scale ruler) half level dir.now arena.now }
 {
     let across = power(level) as usize;
@@ -133,7 +133,7 @@ fn level_ok(ruler: Ruler, half: Half, level: u32, dir: &[u32], arena: &[u32]) ->
 pub fn slots_ok(ruler: Ruler, half: Half, dir: &[u32], arena: &[u32]) -> bool
     requires made { Made ruler }
     requires dir_len { length dir.now ≡ half_length (scale ruler).m }
-    requires arena_value { half_ok dir.now arena.now ≡ true }
+    requires half_passed { half_ok dir.now arena.now ≡ true }
     ensures { result ≡ slots_ok (scale ruler) half dir.now arena.now }
 {
     let m = ruler.bottom();

@@ -35,8 +35,8 @@ fn halves_ok(o: &[u32], originals: &[u32], r: &[u32], replicas: &[u32]) -> bool
 // The tests over the slots of both halves.
 fn all_slots_ok(ruler: Ruler, o: &[u32], originals: &[u32], r: &[u32], replicas: &[u32]) -> bool
     requires made { Made ruler }
-    requires o_len { (length o.now ≡ half_length (scale ruler).m) × (length r.now ≡ half_length (scale ruler).m) }
-    requires replicas_value { halves_ok o.now originals.now r.now replicas.now ≡ true }
+    requires halves_long { (length o.now ≡ half_length (scale ruler).m) × (length r.now ≡ half_length (scale ruler).m) }
+    requires halves_passed { halves_ok o.now originals.now r.now replicas.now ≡ true }
     ensures { result ≡ all_slots_ok (scale ruler) o.now originals.now r.now replicas.now }
 {
     let few = entries_of(o) <= Ruler::MOST_TRIPS;
@@ -48,9 +48,9 @@ fn all_slots_ok(ruler: Ruler, o: &[u32], originals: &[u32], r: &[u32], replicas:
 // The tests over all trips.
 fn trips_ok(ruler: Ruler, o: &[u32], originals: &[u32], r: &[u32], replicas: &[u32]) -> bool
     requires made { Made ruler }
-    requires o_len { (length o.now ≡ half_length (scale ruler).m) × (length r.now ≡ half_length (scale ruler).m) }
-    requires replicas_value { halves_ok o.now originals.now r.now replicas.now ≡ true }
-    requires replicas_value_2 { all_slots_ok (scale ruler) o.now originals.now r.now replicas.now ≡ true }
+    requires halves_long { (length o.now ≡ half_length (scale ruler).m) × (length r.now ≡ half_length (scale ruler).m) }
+    requires halves_passed { halves_ok o.now originals.now r.now replicas.now ≡ true }
+    requires slots_passed { all_slots_ok (scale ruler) o.now originals.now r.now replicas.now ≡ true }
     ensures { result ≡ trips_ok (scale ruler) o.now originals.now r.now replicas.now }
 {
     let used = words_of(o);
@@ -65,7 +65,7 @@ fn trips_ok(ruler: Ruler, o: &[u32], originals: &[u32], r: &[u32], replicas: &[u
 // All tests, each group where the one before it passes.
 fn locally(ruler: Ruler, o: &[u32], originals: &[u32], r: &[u32], replicas: &[u32]) -> bool
     requires made { Made ruler }
-    requires o_len { (length o.now ≡ half_length (scale ruler).m) × (length r.now ≡ half_length (scale ruler).m) }
+    requires halves_long { (length o.now ≡ half_length (scale ruler).m) × (length r.now ≡ half_length (scale ruler).m) }
     ensures { result ≡ locally (scale ruler) o.now originals.now r.now replicas.now }
 {
     if !halves_ok(o, originals, r, replicas) {

@@ -32,8 +32,8 @@ fn narrowed(there: u64, key: u64, later: usize, low: usize) -> usize
 
 // Whether the trip, whose key is known, is one of a part that is in the order of originals: by halving, so many steps as the part's length tells.
 fn has_trip(part: &[u32], n: usize, t: Trip, key: u64) -> bool
-    requires n_value { n ≡ length part.now / entry_words }
-    requires key_value { key ≡ key_by (key_place OIn) t }
+    requires counted { n ≡ length part.now / entry_words }
+    requires keyed { key ≡ key_by (key_place OIn) t }
     requires in_order { InOrder (order OIn) no_trip (rows part.now) (length (rows part.now)) }
     ensures { result ≡ some (same_trip t) (rows part.now) }
 {
@@ -54,7 +54,7 @@ fn has_trip(part: &[u32], n: usize, t: Trip, key: u64) -> bool
 // Whether the trip stands in slot k, which is in the order of originals.
 fn slot_has(dir: &[u32], originals: &[u32], k: usize, t: Trip, key: u64) -> bool
     requires part_there { PartThere dir.now originals.now k (k + 1) }
-    requires key_value { key ≡ key_by (key_place OIn) t }
+    requires keyed { key ≡ key_by (key_place OIn) t }
     requires in_order { InOrder (order OIn) no_trip (slot_at dir.now originals.now k) (length (slot_at dir.now originals.now k)) }
     ensures { result ≡ some (same_trip t) (slot_at dir.now originals.now k) }
 {
@@ -71,8 +71,8 @@ fn slot_has(dir: &[u32], originals: &[u32], k: usize, t: Trip, key: u64) -> bool
 fn is_known(ruler: Ruler, dir: &[u32], originals: &[u32], t: Trip, key: u64) -> bool
     requires made { Made ruler }
     requires dir_len { length dir.now ≡ half_length (scale ruler).m }
-    requires originals_value { (half_ok dir.now originals.now ≡ true) × (slots_ok (scale ruler) Originals dir.now originals.now ≡ true) }
-    requires t_value { (fits (scale ruler) t ≡ true) × (key ≡ key_by (key_place OIn) t) }
+    requires originals_passed { (half_ok dir.now originals.now ≡ true) × (slots_ok (scale ruler) Originals dir.now originals.now ≡ true) }
+    requires trip_fits { (fits (scale ruler) t ≡ true) × (key ≡ key_by (key_place OIn) t) }
     ensures { result ≡ is_known (scale ruler) dir.now originals.now t }
 {
     slot_has(dir, originals, home(ruler, t) as usize, t, key)
@@ -82,8 +82,8 @@ fn is_known(ruler: Ruler, dir: &[u32], originals: &[u32], t: Trip, key: u64) -> 
 pub fn all_known(ruler: Ruler, dir: &[u32], originals: &[u32], part: &[u32]) -> bool
     requires made { Made ruler }
     requires dir_len { length dir.now ≡ half_length (scale ruler).m }
-    requires originals_value { (half_ok dir.now originals.now ≡ true) × (slots_ok (scale ruler) Originals dir.now originals.now ≡ true) }
-    requires part_value { each (fits (scale ruler)) (rows part.now) ≡ true }
+    requires originals_passed { (half_ok dir.now originals.now ≡ true) × (slots_ok (scale ruler) Originals dir.now originals.now ≡ true) }
+    requires rows_fit { each (fits (scale ruler)) (rows part.now) ≡ true }
     ensures { result ≡ each (is_known (scale ruler) dir.now originals.now) (rows part.now) }
 {
     let n = part.len() / ENTRY_WORDS;

@@ -39,7 +39,7 @@ fn count_level<'a>(
     replicas: &'a [u32],
 ) -> usize
     requires level_there { LevelThere directory.now originals.now replicas.now level }
-    requires level_len_bound { length (level_matches (is_sought sought) directory.now originals.now replicas.now level) ≤ most_trips }
+    requires few_matches { length (level_matches (is_sought sought) directory.now originals.now replicas.now level) ≤ most_trips }
     ensures { result ≡ length (level_matches (is_sought sought) directory.now originals.now replicas.now level) }
 {
     let to = looks_to(level, directory);
@@ -64,7 +64,7 @@ pub fn count_levels<'a>(
     replicas: &'a [u32],
 ) -> usize
     requires levels_there { LevelsThere directory.now originals.now replicas.now plan }
-    requires plan_len_bound { length (walk_matches (is_sought sought) directory.now originals.now replicas.now plan) ≤ most_trips }
+    requires few_matches { length (walk_matches (is_sought sought) directory.now originals.now replicas.now plan) ≤ most_trips }
     ensures { result ≡ length (walk_matches (is_sought sought) directory.now originals.now replicas.now plan) }
 {
     let low = plan.low;

@@ -80,7 +80,7 @@ fn list_level<'a>(
     out: &mut [u32],
 ) -> usize
     requires level_there { LevelThere directory.now originals.now replicas.now level }
-    requires level_in_bounds { length (level_matches (is_sought sought) directory.now originals.now replicas.now level) ≤ length out.old }
+    requires room { length (level_matches (is_sought sought) directory.now originals.now replicas.now level) ≤ length out.old }
     ensures { Listed (level_matches (is_sought sought) directory.now originals.now replicas.now level)
         out.old out.new result }
 {
@@ -107,7 +107,7 @@ pub fn list_levels<'a>(
     answers: &mut [u32],
 ) -> usize
     requires levels_there { LevelsThere directory.now originals.now replicas.now plan }
-    requires plan_in_bounds { length (walk_matches (is_sought sought) directory.now originals.now replicas.now plan) ≤ length answers.old }
+    requires room { length (walk_matches (is_sought sought) directory.now originals.now replicas.now plan) ≤ length answers.old }
     ensures { Listed (walk_matches (is_sought sought) directory.now originals.now replicas.now plan)
         answers.old answers.new result }
 {

@@ -15,7 +15,7 @@ pub listed-requires : goal.listed-requires
 listed-requires c =
     let fit : (q : Question) → c.judge-judgement.result ≡ Fit q → Judged (scale c.args.ruler) c.args.asking q = λ q e. let g = c in judged_fit (scale g.args.ruler) g.args.asking q c.judge-judgement.ensures e in
     let judged = c in
-    record { made = c.requires.made; replicas_value = c.requires.replicas_value; on_ruler = (fit c.in-Fit.question c.in-Fit.is).on_ruler_lem }
+    record { made = c.requires.made; indexed = c.requires.indexed; on_ruler = (fit c.in-Fit.question c.in-Fit.is).on_ruler_lem }
 
 pub returns-in-Fit : goal.returns-in-Fit
 returns-in-Fit c =

@@ -24,7 +24,7 @@ sought_by-sought-requires c =
     let s = c in
     let g = s.args in
     let x = index g.directory.now g.originals.now g.replicas.now in
-    window_near g.ruler s.requires.made x s.requires.replicas_value g.question s.requires.on_ruler
+    window_near g.ruler s.requires.made x s.requires.indexed g.question s.requires.on_ruler
 
 pub trips_of-trips-requires : goal.trips_of-trips-requires
 trips_of-trips-requires c =
@@ -32,19 +32,19 @@ trips_of-trips-requires c =
     let g = s.args in
     let x = index g.directory.now g.originals.now g.replicas.now in
     let deep = deep-ruler g.ruler s.requires.made in
-    rw c.bottom.ensures (deep, trips_in g.ruler s.requires.made x s.requires.replicas_value g.question s.requires.on_ruler)
+    rw c.bottom.ensures (deep, trips_in g.ruler s.requires.made x s.requires.indexed g.question s.requires.on_ruler)
 
 pub room_for-room-requires : goal.room_for-room-requires
 room_for-room-requires c =
     let s = c in
     let g = s.args in
     let x = index g.directory.now g.originals.now g.replicas.now in
-    let same = same_listing g.ruler s.requires.made x s.requires.replicas_value g.question s.requires.on_ruler c.sought_by-sought.ensures
+    let same = same_listing g.ruler s.requires.made x s.requires.indexed g.question s.requires.on_ruler c.sought_by-sought.ensures
     c.plan_for-plan.ensures in
     let trips = c.trips_of-trips.ensures ∙ ap (λ (m : ℕ). get_or g.directory.now (2 * partitions m) 0) c.bottom.ensures
-    ∙ trips_word g.ruler s.requires.made x s.requires.replicas_value g.question s.requires.on_ruler in
-    let few = listing_few g.ruler s.requires.made x s.requires.replicas_value g.question s.requires.on_ruler in
-    let most = trips_few g.ruler s.requires.made x s.requires.replicas_value g.question s.requires.on_ruler in record { levels_there = same-there g.ruler s.requires.made x s.requires.replicas_value g.question s.requires.on_ruler c.plan_for-plan.ensures; plan_len_bound = (omega (arith, ap length same), omega arith) }
+    ∙ trips_word g.ruler s.requires.made x s.requires.indexed g.question s.requires.on_ruler in
+    let few = listing_few g.ruler s.requires.made x s.requires.indexed g.question s.requires.on_ruler in
+    let most = trips_few g.ruler s.requires.made x s.requires.indexed g.question s.requires.on_ruler in record { levels_there = same-there g.ruler s.requires.made x s.requires.indexed g.question s.requires.on_ruler c.plan_for-plan.ensures; few_matches = (omega (arith, ap length same), omega arith) }
 
 pub returns-in-Refused : goal.returns-in-Refused
 unfolding listed_of
@@ -52,11 +52,11 @@ returns-in-Refused c =
     let s = c in
     let g = s.args in
     let x = index g.directory.now g.originals.now g.replicas.now in
-    let same = same_listing g.ruler s.requires.made x s.requires.replicas_value g.question s.requires.on_ruler
+    let same = same_listing g.ruler s.requires.made x s.requires.indexed g.question s.requires.on_ruler
     c.sought_by-sought.ensures
     c.plan_for-plan.ensures in
     let told = c.in-Refused.is in
-    let long = ap length same ∙ listing_length g.ruler s.requires.made x s.requires.replicas_value g.question s.requires.on_ruler in
+    let long = ap length same ∙ listing_length g.ruler s.requires.made x s.requires.indexed g.question s.requires.on_ruler in
     let room = ap (λ (n : ℕ). room_test n (length g.answers.now)) (sym long) ∙ sym c.room_for-room.ensures ∙ told in
     ends_refused _ _ _ _ room c.refused.ensures.0 c.refused.ensures.1
 
@@ -65,14 +65,14 @@ list_levels-count-requires c =
     let s = c in
     let g = s.args in
     let x = index g.directory.now g.originals.now g.replicas.now in
-    let same = same_listing g.ruler s.requires.made x s.requires.replicas_value g.question s.requires.on_ruler
+    let same = same_listing g.ruler s.requires.made x s.requires.indexed g.question s.requires.on_ruler
     c.sought_by-sought.ensures
     c.plan_for-plan.ensures in
     let told = c.in_default.is in
     let room = c.room_for-room.ensures in record {
-      levels_there = same-there g.ruler s.requires.made x s.requires.replicas_value g.question s.requires.on_ruler
+      levels_there = same-there g.ruler s.requires.made x s.requires.indexed g.question s.requires.on_ruler
           c.plan_for-plan.ensures;
-      plan_in_bounds = of_room _ _ (sym room ∙ told);
+      room = of_room _ _ (sym room ∙ told);
     }
 
 pub slice_bounds-sort_ids-end : goal.slice_bounds-sort_ids-end
@@ -89,10 +89,10 @@ overflow_cast-result c =
     let s = c in
     let g = s.args in
     let x = index g.directory.now g.originals.now g.replicas.now in
-    let same = same_listing g.ruler s.requires.made x s.requires.replicas_value g.question s.requires.on_ruler
+    let same = same_listing g.ruler s.requires.made x s.requires.indexed g.question s.requires.on_ruler
     c.sought_by-sought.ensures c.plan_for-plan.ensures in
-    let few = listing_few g.ruler s.requires.made x s.requires.replicas_value g.question s.requires.on_ruler in
-    let most = trips_few g.ruler s.requires.made x s.requires.replicas_value g.question s.requires.on_ruler in
+    let few = listing_few g.ruler s.requires.made x s.requires.indexed g.question s.requires.on_ruler in
+    let most = trips_few g.ruler s.requires.made x s.requires.indexed g.question s.requires.on_ruler in
     omega (arith, ap length same, c.list_levels-count.ensures.counted)
 
 pub returns : goal.returns
@@ -100,13 +100,13 @@ returns c =
     let s = c in
     let g = s.args in
     let x = index g.directory.now g.originals.now g.replicas.now in
-    let same = same_listing g.ruler s.requires.made x s.requires.replicas_value g.question s.requires.on_ruler
+    let same = same_listing g.ruler s.requires.made x s.requires.indexed g.question s.requires.on_ruler
     c.sought_by-sought.ensures c.plan_for-plan.ensures in
     let told = c.in_default.is in
     let room = c.room_for-room.ensures in
-    let long = ap length same ∙ listing_length g.ruler s.requires.made x s.requires.replicas_value g.question s.requires.on_ruler in
+    let long = ap length same ∙ listing_length g.ruler s.requires.made x s.requires.indexed g.question s.requires.on_ruler in
     let l = c.list_levels-count.ensures in
     let over = sorted_over _ {k = c.list_levels-count.result - 0} l (omega arith)
-    (ap (λ (ts : List Trip). ascending (ids ts)) same ∙ listing_answer g.ruler s.requires.made x s.requires.replicas_value g.question s.requires.on_ruler)
+    (ap (λ (ts : List Trip). ascending (ids ts)) same ∙ listing_answer g.ruler s.requires.made x s.requires.indexed g.question s.requires.on_ruler)
     c.sort_ids.ensures in
     ends-accepted _ _ (ap (λ (n : ℕ). room_test n (length g.answers.now)) (sym long) ∙ sym room ∙ told) (l.counted ∙ long) over

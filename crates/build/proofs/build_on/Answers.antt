@@ -73,7 +73,7 @@ fill_replicas-requires c =
     let long = second_long d c.half_length-half.result (length d) both refl in
     record {
       fillable = second_half_lem a.ruler a.table.now d a.originals.now a.replicas.now c.requires table.0 _ (long ∙ half);
-      table_in_bounds = (rows-room a.ruler a.table.now d a.originals.now a.replicas.now c.requires table.0 table.1, table.1);
+      room = (rows-room a.ruler a.table.now d a.originals.now a.replicas.now c.requires table.0 table.1, table.1);
     }
 
 pub slice_bounds-fill-end : goal.slice_bounds-fill-end

@@ -31,7 +31,7 @@ rows_outcome-bad-requires c =
     let a = c.args in
     record {
       made = c.requires;
-      entry_words_len_bound = few-rows a.ruler a.table.now a.directory a.originals a.replicas c.requires c.if-words.false;
+      few_rows = few-rows a.ruler a.table.now a.directory a.originals a.replicas c.requires c.if-words.false;
     }
 
 pub returns-then-not-is_accepted : goal.returns-then-not-is_accepted

@@ -13,7 +13,7 @@ add_checked-requires c =
     let a = c.args in
     let x = index a.directory.now a.originals.now a.replicas.now in
     let w = opened a.numbers x c.in-Index.ruler c.open-opened.ensures c.in-Index.is in
-    record { made = w.good; replicas_value = w.passes }
+    record { made = w.good; checked = w.passes }
 
 pub returns-in-Index : goal.returns-in-Index
 returns-in-Index c =

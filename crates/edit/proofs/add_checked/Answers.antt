@@ -19,7 +19,7 @@ put_in-requires c =
     let s = scale g.args.ruler in
     let x = index g.args.directory.now g.args.originals.now g.args.replicas.now in
     let taken = is-accepted _ (sym c.is_accepted.ensures ∙ c.if-not-is_accepted.false) in
-    record { made = g.requires.made; t_value = sym c.add_outcome-outcome.ensures ∙ taken }
+    record { made = g.requires.made; accepted = sym c.add_outcome-outcome.ensures ∙ taken }
 
 pub returns : goal.returns
 returns c =

@@ -19,7 +19,7 @@ slice_bounds-add_half-end c =
     let both : length c.args.directory.now ≡ c.half_length-middle.result + c.half_length-middle.result =
     let s = c in
     let x = index s.args.directory.now s.args.originals.now s.args.replicas.now in
-    two_parts _ _ _ (adding s.args.ruler s.requires.made x s.args.t s.requires.t_value) half in
+    two_parts _ _ _ (adding s.args.ruler s.requires.made x s.args.t s.requires.accepted) half in
     omega (arith, both)
 
 pub add_half-requires : goal.add_half-requires
@@ -27,7 +27,7 @@ add_half-requires c =
     let half : c.half_length-middle.result ≡ half_length (scale c.args.ruler).m = c.half_length-middle.ensures ∙ ap half_length c.bottom.ensures in
     let s = c in
     let x = index s.args.directory.now s.args.originals.now s.args.replicas.now in
-    let e = adding s.args.ruler s.requires.made x s.args.t s.requires.t_value in
+    let e = adding s.args.ruler s.requires.made x s.args.t s.requires.accepted in
     record { made = s.requires.made; adding = (x, first_lent _ _ _ e half) }
 
 pub offset_bounds-directory-middle : goal.offset_bounds-directory-middle
@@ -36,7 +36,7 @@ offset_bounds-directory-middle c =
     let both : length c.args.directory.now ≡ c.half_length-middle.result + c.half_length-middle.result =
     let s = c in
     let x = index s.args.directory.now s.args.originals.now s.args.replicas.now in
-    two_parts _ _ _ (adding s.args.ruler s.requires.made x s.args.t s.requires.t_value) half in
+    two_parts _ _ _ (adding s.args.ruler s.requires.made x s.args.t s.requires.accepted) half in
     omega (arith, both)
 
 pub slice_bounds-add_half-count-2 : goal.slice_bounds-add_half-count-2
@@ -45,7 +45,7 @@ slice_bounds-add_half-count-2 c =
     let both : length c.args.directory.now ≡ c.half_length-middle.result + c.half_length-middle.result =
     let s = c in
     let x = index s.args.directory.now s.args.originals.now s.args.replicas.now in
-    two_parts _ _ _ (adding s.args.ruler s.requires.made x s.args.t s.requires.t_value) half in
+    two_parts _ _ _ (adding s.args.ruler s.requires.made x s.args.t s.requires.accepted) half in
     omega (arith, both)
 
 pub slice_bounds-add_half-start-2 : goal.slice_bounds-add_half-start-2
@@ -54,7 +54,7 @@ slice_bounds-add_half-start-2 c =
     let both : length c.args.directory.now ≡ c.half_length-middle.result + c.half_length-middle.result =
     let s = c in
     let x = index s.args.directory.now s.args.originals.now s.args.replicas.now in
-    two_parts _ _ _ (adding s.args.ruler s.requires.made x s.args.t s.requires.t_value) half in
+    two_parts _ _ _ (adding s.args.ruler s.requires.made x s.args.t s.requires.accepted) half in
     omega (arith, both)
 
 pub add_half-requires-2 : goal.add_half-requires-2
@@ -62,7 +62,7 @@ add_half-requires-2 c =
     let half : c.half_length-middle.result ≡ half_length (scale c.args.ruler).m = c.half_length-middle.ensures ∙ ap half_length c.bottom.ensures in
     let s = c in
     let x = index s.args.directory.now s.args.originals.now s.args.replicas.now in
-    let e = adding s.args.ruler s.requires.made x s.args.t s.requires.t_value in record { made = s.requires.made; adding = (x, second_lent _ _ _ e half (c.add_half.ensures x)) }
+    let e = adding s.args.ruler s.requires.made x s.args.t s.requires.accepted in record { made = s.requires.made; adding = (x, second_lent _ _ _ e half (c.add_half.ensures x)) }
 
 pub returns : goal.returns
 returns c =
@@ -70,6 +70,6 @@ returns c =
     let cut = c in
     let s = c in
     let x = index s.args.directory.now s.args.originals.now s.args.replicas.now in
-    let e = adding s.args.ruler s.requires.made x s.args.t s.requires.t_value in
+    let e = adding s.args.ruler s.requires.made x s.args.t s.requires.accepted in
     both_back _ _ _ e half (c.add_half.ensures x)
     (c.add_half-2.ensures x)

@@ -19,14 +19,14 @@ pub trips_of-trips-requires : goal.trips_of-trips-requires
 unfolding directory_length
 trips_of-trips-requires c =
     let words : Index = index c.args.directory.now c.args.originals.now c.args.replicas.now in
-    let in-index : Shown (scale c.args.ruler) words = shown _ _ (checked _ _ c.requires.replicas_value) (deep-ruler c.args.ruler c.requires.made) in
+    let in-index : Shown (scale c.args.ruler) words = shown _ _ (checked _ _ c.requires.checked) (deep-ruler c.args.ruler c.requires.made) in
     let g = c in
     rw c.bottom.ensures (deep-ruler g.args.ruler g.requires.made, omega (arith, in-index.size))
 
 pub overflow_mul-used : goal.overflow_mul-used
 overflow_mul-used c =
     let words : Index = index c.args.directory.now c.args.originals.now c.args.replicas.now in
-    let in-index : Shown (scale c.args.ruler) words = shown _ _ (checked _ _ c.requires.replicas_value) (deep-ruler c.args.ruler c.requires.made) in
+    let in-index : Shown (scale c.args.ruler) words = shown _ _ (checked _ _ c.requires.checked) (deep-ruler c.args.ruler c.requires.made) in
     let counted : c.trips_of-trips.result ≡ length (table_of (scale c.args.ruler) words) =
     let g = c in
     c.trips_of-trips.ensures ∙ ap (λ (m : ℕ). get_or g.args.directory.now (2 * partitions m) 0) c.bottom.ensures
@@ -36,7 +36,7 @@ overflow_mul-used c =
 pub slice_bounds-find_id-end : goal.slice_bounds-find_id-end
 slice_bounds-find_id-end c =
     let words : Index = index c.args.directory.now c.args.originals.now c.args.replicas.now in
-    let in-index : Shown (scale c.args.ruler) words = shown _ _ (checked _ _ c.requires.replicas_value) (deep-ruler c.args.ruler c.requires.made) in
+    let in-index : Shown (scale c.args.ruler) words = shown _ _ (checked _ _ c.requires.checked) (deep-ruler c.args.ruler c.requires.made) in
     let counted : c.trips_of-trips.result ≡ length (table_of (scale c.args.ruler) words) =
     let g = c in
     c.trips_of-trips.ensures ∙ ap (λ (m : ℕ). get_or g.args.directory.now (2 * partitions m) 0) c.bottom.ensures
@@ -46,7 +46,7 @@ slice_bounds-find_id-end c =
 pub returns-then-trips-place : goal.returns-then-trips-place
 returns-then-trips-place c =
     let words : Index = index c.args.directory.now c.args.originals.now c.args.replicas.now in
-    let in-index : Shown (scale c.args.ruler) words = shown _ _ (checked _ _ c.requires.replicas_value) (deep-ruler c.args.ruler c.requires.made) in
+    let in-index : Shown (scale c.args.ruler) words = shown _ _ (checked _ _ c.requires.checked) (deep-ruler c.args.ruler c.requires.made) in
     let counted : c.trips_of-trips.result ≡ length (table_of (scale c.args.ruler) words) =
     let g = c in
     c.trips_of-trips.ensures ∙ ap (λ (m : ℕ). get_or g.args.directory.now (2 * partitions m) 0) c.bottom.ensures
@@ -57,13 +57,13 @@ returns-then-trips-place c =
     let w = in-index in
     let read = ap (λ (k : ℕ). rows (take (entry_words * k - 0) x.originals)) counted ∙ w.listed in
     let place = c.find_id-place.ensures ∙ ap (place_of_id g.args.id) read in
-    not_found s x g.args.id _ g.requires.replicas_value w place _ (omega (arith, counted, c.if-trips-place.true))
+    not_found s x g.args.id _ g.requires.checked w place _ (omega (arith, counted, c.if-trips-place.true))
     c.refused.ensures
 
 pub trip_at-t-requires : goal.trip_at-t-requires
 trip_at-t-requires c =
     let words : Index = index c.args.directory.now c.args.originals.now c.args.replicas.now in
-    let in-index : Shown (scale c.args.ruler) words = shown _ _ (checked _ _ c.requires.replicas_value) (deep-ruler c.args.ruler c.requires.made) in
+    let in-index : Shown (scale c.args.ruler) words = shown _ _ (checked _ _ c.requires.checked) (deep-ruler c.args.ruler c.requires.made) in
     let counted : c.trips_of-trips.result ≡ length (table_of (scale c.args.ruler) words) =
     c.trips_of-trips.ensures ∙ ap (λ (m : ℕ). get_or c.args.directory.now (2 * partitions m) 0) c.bottom.ensures ∙ in-index.trips in
     omega (arith, in-index, counted, c.if-trips-place.false)
@@ -71,7 +71,7 @@ trip_at-t-requires c =
 pub take_out-requires : goal.take_out-requires
 take_out-requires c =
     let words : Index = index c.args.directory.now c.args.originals.now c.args.replicas.now in
-    let in-index : Shown (scale c.args.ruler) words = shown _ _ (checked _ _ c.requires.replicas_value) (deep-ruler c.args.ruler c.requires.made) in
+    let in-index : Shown (scale c.args.ruler) words = shown _ _ (checked _ _ c.requires.checked) (deep-ruler c.args.ruler c.requires.made) in
     let counted : c.trips_of-trips.result ≡ length (table_of (scale c.args.ruler) words) =
     let g = c in
     c.trips_of-trips.ensures ∙ ap (λ (m : ℕ). get_or g.args.directory.now (2 * partitions m) 0) c.bottom.ensures
@@ -83,18 +83,18 @@ take_out-requires c =
     let read = ap (λ (k : ℕ). rows (take (entry_words * k - 0) x.originals))
     counted ∙ w.listed in
     let place = c.find_id-place.ensures ∙ ap (place_of_id g.args.id) read in
-    let f = found s x g.args.id _ g.requires.replicas_value w place c.trip_at-t.result (omega (
+    let f = found s x g.args.id _ g.requires.checked w place c.trip_at-t.result (omega (
       arith,
       counted,
       c.if-trips-place.false,
     ))
     c.trip_at-t.ensures in
-    record { made = g.requires.made; id_value = rw f.same f.accepted; fact = f.member }
+    record { made = g.requires.made; accepted = rw f.same f.accepted; listed = f.member }
 
 pub returns : goal.returns
 returns c =
     let words : Index = index c.args.directory.now c.args.originals.now c.args.replicas.now in
-    let in-index : Shown (scale c.args.ruler) words = shown _ _ (checked _ _ c.requires.replicas_value) (deep-ruler c.args.ruler c.requires.made) in
+    let in-index : Shown (scale c.args.ruler) words = shown _ _ (checked _ _ c.requires.checked) (deep-ruler c.args.ruler c.requires.made) in
     let counted : c.trips_of-trips.result ≡ length (table_of (scale c.args.ruler) words) =
     let g = c in
     c.trips_of-trips.ensures ∙ ap (λ (m : ℕ). get_or g.args.directory.now (2 * partitions m) 0) c.bottom.ensures
@@ -105,7 +105,7 @@ returns c =
     let w = in-index in
     let read = ap (λ (k : ℕ). rows (take (entry_words * k - 0) x.originals)) counted ∙ w.listed in
     let place = c.find_id-place.ensures ∙ ap (place_of_id g.args.id) read in
-    let f = found s x g.args.id _ g.requires.replicas_value w place c.trip_at-t.result
+    let f = found s x g.args.id _ g.requires.checked w place c.trip_at-t.result
     (omega (arith, counted, c.if-trips-place.false))
     c.trip_at-t.ensures in
     remove-accepted s x _ g.args.id f.accepted (c.take_out.ensures

@@ -19,7 +19,7 @@ slice_bounds-remove_half-end c =
     let both : length c.args.directory.now ≡ c.half_length-middle.result + c.half_length-middle.result =
     let s = c in
     let x = index s.args.directory.now s.args.originals.now s.args.replicas.now in
-    two_parts _ _ _ (removing s.args.ruler s.requires.made x s.args.t s.requires.id_value s.requires.fact) half in
+    two_parts _ _ _ (removing s.args.ruler s.requires.made x s.args.t s.requires.accepted s.requires.listed) half in
     omega (arith, both)
 
 pub remove_half-requires : goal.remove_half-requires
@@ -27,7 +27,7 @@ remove_half-requires c =
     let half : c.half_length-middle.result ≡ half_length (scale c.args.ruler).m = c.half_length-middle.ensures ∙ ap half_length c.bottom.ensures in
     let s = c in
     let x = index s.args.directory.now s.args.originals.now s.args.replicas.now in
-    let e = removing s.args.ruler s.requires.made x s.args.t s.requires.id_value s.requires.fact in
+    let e = removing s.args.ruler s.requires.made x s.args.t s.requires.accepted s.requires.listed in
     record { made = s.requires.made; removing = (x, first_lent _ _ _ e half) }
 
 pub offset_bounds-directory-middle : goal.offset_bounds-directory-middle
@@ -36,7 +36,7 @@ offset_bounds-directory-middle c =
     let both : length c.args.directory.now ≡ c.half_length-middle.result + c.half_length-middle.result =
     let s = c in
     let x = index s.args.directory.now s.args.originals.now s.args.replicas.now in
-    two_parts _ _ _ (removing s.args.ruler s.requires.made x s.args.t s.requires.id_value s.requires.fact) half in
+    two_parts _ _ _ (removing s.args.ruler s.requires.made x s.args.t s.requires.accepted s.requires.listed) half in
     omega (arith, both)
 
 pub slice_bounds-remove_half-count-2 : goal.slice_bounds-remove_half-count-2
@@ -45,7 +45,7 @@ slice_bounds-remove_half-count-2 c =
     let both : length c.args.directory.now ≡ c.half_length-middle.result + c.half_length-middle.result =
     let s = c in
     let x = index s.args.directory.now s.args.originals.now s.args.replicas.now in
-    two_parts _ _ _ (removing s.args.ruler s.requires.made x s.args.t s.requires.id_value s.requires.fact) half in
+    two_parts _ _ _ (removing s.args.ruler s.requires.made x s.args.t s.requires.accepted s.requires.listed) half in
     omega (arith, both)
 
 pub slice_bounds-remove_half-start-2 : goal.slice_bounds-remove_half-start-2
@@ -54,7 +54,7 @@ slice_bounds-remove_half-start-2 c =
     let both : length c.args.directory.now ≡ c.half_length-middle.result + c.half_length-middle.result =
     let s = c in
     let x = index s.args.directory.now s.args.originals.now s.args.replicas.now in
-    two_parts _ _ _ (removing s.args.ruler s.requires.made x s.args.t s.requires.id_value s.requires.fact) half in
+    two_parts _ _ _ (removing s.args.ruler s.requires.made x s.args.t s.requires.accepted s.requires.listed) half in
     omega (arith, both)
 
 pub remove_half-requires-2 : goal.remove_half-requires-2
@@ -62,7 +62,7 @@ remove_half-requires-2 c =
     let half : c.half_length-middle.result ≡ half_length (scale c.args.ruler).m = c.half_length-middle.ensures ∙ ap half_length c.bottom.ensures in
     let s = c in
     let x = index s.args.directory.now s.args.originals.now s.args.replicas.now in
-    let e = removing s.args.ruler s.requires.made x s.args.t s.requires.id_value s.requires.fact in record { made = s.requires.made; removing = (x, second_lent _ _ _ e half (c.remove_half.ensures x)) }
+    let e = removing s.args.ruler s.requires.made x s.args.t s.requires.accepted s.requires.listed in record { made = s.requires.made; removing = (x, second_lent _ _ _ e half (c.remove_half.ensures x)) }
 
 pub returns : goal.returns
 returns c =
@@ -70,6 +70,6 @@ returns c =
     let cut = c in
     let s = c in
     let x = index s.args.directory.now s.args.originals.now s.args.replicas.now in
-    let e = removing s.args.ruler s.requires.made x s.args.t s.requires.id_value s.requires.fact in
+    let e = removing s.args.ruler s.requires.made x s.args.t s.requires.accepted s.requires.listed in
     both_back _ _ _ e half (c.remove_half.ensures x)
     (c.remove_half-2.ensures x)

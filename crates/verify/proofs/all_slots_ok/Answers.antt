@@ -4,19 +4,19 @@ use Rattle.verify.proofs.TestsPassed.{of_halves, some_words}
 use Rattle.verify.proofs.all_slots_ok.Goals as goal
 
 pub entries_of-few-requires : goal.entries_of-few-requires
-entries_of-few-requires c = some_words _ c.args.o.now c.requires.o_len.0
+entries_of-few-requires c = some_words _ c.args.o.now c.requires.halves_long.0
 
 pub slots_ok-firsts-requires : goal.slots_ok-firsts-requires
 slots_ok-firsts-requires c =
     let g = c in
-    let h = of_halves g.args.o.now g.args.originals.now g.args.r.now g.args.replicas.now g.requires.replicas_value in
-    record { made = g.requires.made; dir_len = g.requires.o_len.0; arena_value = h.0 }
+    let h = of_halves g.args.o.now g.args.originals.now g.args.r.now g.args.replicas.now g.requires.halves_passed in
+    record { made = g.requires.made; dir_len = g.requires.halves_long.0; half_passed = h.0 }
 
 pub slots_ok-copies-requires : goal.slots_ok-copies-requires
 slots_ok-copies-requires c =
     let g = c in
-    let h = of_halves g.args.o.now g.args.originals.now g.args.r.now g.args.replicas.now g.requires.replicas_value in
-    record { made = g.requires.made; dir_len = g.requires.o_len.1; arena_value = h.1 }
+    let h = of_halves g.args.o.now g.args.originals.now g.args.r.now g.args.replicas.now g.requires.halves_passed in
+    record { made = g.requires.made; dir_len = g.requires.halves_long.1; half_passed = h.1 }
 
 pub returns : goal.returns
 unfolding all_slots_ok

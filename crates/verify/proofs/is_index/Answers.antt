@@ -41,7 +41,7 @@ pub locally-requires : goal.locally-requires
 locally-requires c =
     let half : c.half_length-half.result ≡ half_length (scale c.args.ruler).m = c.half_length-half.ensures ∙ ap half_length c.bottom.ensures in
     let g = c in
-    record { made = g.requires.made; o_len = halves_long g.args.ruler g.args.directory.now g.requires.made g.requires.directory_len half }
+    record { made = g.requires.made; halves_long = halves_long g.args.ruler g.args.directory.now g.requires.made g.requires.directory_len half }
 
 pub returns : goal.returns
 returns c =

@@ -7,7 +7,7 @@ use Rattle.verify.proofs.locally.Goals as goal
 pub halves_ok-requires : goal.halves_ok-requires
 halves_ok-requires c =
     let g = c in
-    (some_words _ g.args.o.now g.requires.o_len.0, some_words _ g.args.r.now g.requires.o_len.1)
+    (some_words _ g.args.o.now g.requires.halves_long.0, some_words _ g.args.r.now g.requires.halves_long.1)
 
 pub returns-then-not-halves_ok : goal.returns-then-not-halves_ok
 unfolding locally
@@ -18,7 +18,7 @@ returns-then-not-halves_ok c =
 pub all_slots_ok-requires : goal.all_slots_ok-requires
 all_slots_ok-requires c =
     let g = c in
-    record { made = g.requires.made; o_len = g.requires.o_len; replicas_value = sym c.halves_ok.ensures ∙ c.if-not-halves_ok.false }
+    record { made = g.requires.made; halves_long = g.requires.halves_long; halves_passed = sym c.halves_ok.ensures ∙ c.if-not-halves_ok.false }
 
 pub returns-then-not-all_slots_ok : goal.returns-then-not-all_slots_ok
 unfolding locally
@@ -33,9 +33,9 @@ trips_ok-requires c =
     let halves = sym c.halves_ok.ensures ∙ c.if-not-halves_ok.false in
     record {
       made = g.requires.made;
-      o_len = g.requires.o_len;
-      replicas_value = halves;
-      replicas_value_2 = sym c.all_slots_ok.ensures ∙ c.if-not-all_slots_ok.false;
+      halves_long = g.requires.halves_long;
+      halves_passed = halves;
+      slots_passed = sym c.all_slots_ok.ensures ∙ c.if-not-all_slots_ok.false;
     }
 
 pub returns : goal.returns

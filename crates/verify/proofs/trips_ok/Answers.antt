@@ -6,65 +6,65 @@ use native.Mathlib.Omega.{arith}
 use Rattle.verify.proofs.trips_ok.Goals as goal
 
 pub words_of-used-requires : goal.words_of-used-requires
-words_of-used-requires c = let g = c in some_words _ g.args.o.now g.requires.o_len.0
+words_of-used-requires c = let g = c in some_words _ g.args.o.now g.requires.halves_long.0
 
 pub words_of-copied-requires : goal.words_of-copied-requires
-words_of-copied-requires c = let g = c in some_words _ g.args.r.now g.requires.o_len.1
+words_of-copied-requires c = let g = c in some_words _ g.args.r.now g.requires.halves_long.1
 
 pub entries_of-requires : goal.entries_of-requires
-entries_of-requires c = let g = c in some_words _ g.args.o.now g.requires.o_len.0
+entries_of-requires c = let g = c in some_words _ g.args.o.now g.requires.halves_long.0
 
 pub entries_of-requires-2 : goal.entries_of-requires-2
-entries_of-requires-2 c = let g = c in some_words _ g.args.r.now g.requires.o_len.1
+entries_of-requires-2 c = let g = c in some_words _ g.args.r.now g.requires.halves_long.1
 
 pub overflow_add-entries : goal.overflow_add-entries
 overflow_add-entries c =
     let g = c in
-    let fit = totals_fit g.args.o.now g.args.originals.now g.args.r.now g.args.replicas.now g.requires.replicas_value in
+    let fit = totals_fit g.args.o.now g.args.originals.now g.args.r.now g.args.replicas.now g.requires.halves_passed in
     omega (arith, c.entries_of.ensures, c.entries_of-2.ensures)
 
 pub slice_bounds-ids_differ-end : goal.slice_bounds-ids_differ-end
 slice_bounds-ids_differ-end c =
     let g = c in
-    let h = of_halves g.args.o.now g.args.originals.now g.args.r.now g.args.replicas.now g.requires.replicas_value in
+    let h = of_halves g.args.o.now g.args.originals.now g.args.r.now g.args.replicas.now g.requires.halves_passed in
     rw c.words_of-used.ensures (half_room g.args.o.now g.args.originals.now h.0)
 
 pub ids_differ-differ-requires : goal.ids_differ-differ-requires
 ids_differ-differ-requires c =
     let g = c in
-    let h = of_halves g.args.o.now g.args.originals.now g.args.r.now g.args.replicas.now g.requires.replicas_value in
-    let s = of_slots _ g.args.o.now g.args.originals.now g.args.r.now g.args.replicas.now g.requires.replicas_value_2 in
+    let h = of_halves g.args.o.now g.args.originals.now g.args.r.now g.args.replicas.now g.requires.halves_passed in
+    let s = of_slots _ g.args.o.now g.args.originals.now g.args.r.now g.args.replicas.now g.requires.slots_passed in
     few-rows g.args.o.now g.args.originals.now _ c.words_of-used.ensures h.0 s.0
 
 pub slice_bounds-all_known-end : goal.slice_bounds-all_known-end
 slice_bounds-all_known-end c =
     let g = c in
-    let h = of_halves g.args.o.now g.args.originals.now g.args.r.now g.args.replicas.now g.requires.replicas_value in
+    let h = of_halves g.args.o.now g.args.originals.now g.args.r.now g.args.replicas.now g.requires.halves_passed in
     rw c.words_of-copied.ensures (half_room g.args.r.now g.args.replicas.now h.1)
 
 pub all_known-known-requires : goal.all_known-known-requires
 all_known-known-requires c =
     let g = c in
-    let h = of_halves g.args.o.now g.args.originals.now g.args.r.now g.args.replicas.now g.requires.replicas_value in
-    let s = of_slots _ g.args.o.now g.args.originals.now g.args.r.now g.args.replicas.now g.requires.replicas_value_2 in
+    let h = of_halves g.args.o.now g.args.originals.now g.args.r.now g.args.replicas.now g.requires.halves_passed in
+    let s = of_slots _ g.args.o.now g.args.originals.now g.args.r.now g.args.replicas.now g.requires.slots_passed in
     let copied = c.words_of-copied.ensures in
-    let fit = all_fit g.args.r.now g.args.replicas.now _ copied _ Replicas g.requires.o_len.1 h.1 s.2 in
-    record { made = g.requires.made; dir_len = g.requires.o_len.0; originals_value = (h.0, s.1); part_value = fit }
+    let fit = all_fit g.args.r.now g.args.replicas.now _ copied _ Replicas g.requires.halves_long.1 h.1 s.2 in
+    record { made = g.requires.made; dir_len = g.requires.halves_long.0; originals_passed = (h.0, s.1); rows_fit = fit }
 
 pub slice_bounds-counts_to-end : goal.slice_bounds-counts_to-end
 slice_bounds-counts_to-end c =
     let g = c in
-    let h = of_halves g.args.o.now g.args.originals.now g.args.r.now g.args.replicas.now g.requires.replicas_value in
+    let h = of_halves g.args.o.now g.args.originals.now g.args.r.now g.args.replicas.now g.requires.halves_passed in
     rw c.words_of-used.ensures (half_room g.args.o.now g.args.originals.now h.0)
 
 pub counts_to-counted-requires : goal.counts_to-counted-requires
 counts_to-counted-requires c =
     let g = c in
-    let h = of_halves g.args.o.now g.args.originals.now g.args.r.now g.args.replicas.now g.requires.replicas_value in
-    let s = of_slots _ g.args.o.now g.args.originals.now g.args.r.now g.args.replicas.now g.requires.replicas_value_2 in
+    let h = of_halves g.args.o.now g.args.originals.now g.args.r.now g.args.replicas.now g.requires.halves_passed in
+    let s = of_slots _ g.args.o.now g.args.originals.now g.args.r.now g.args.replicas.now g.requires.slots_passed in
     let used = c.words_of-used.ensures in
-    let fit = all_fit g.args.o.now g.args.originals.now _ used _ Originals g.requires.o_len.0 h.0 s.1 in
-    record { made = g.requires.made; entry_words_len_bound = (few-rows g.args.o.now g.args.originals.now _ used h.0 s.0, fit) }
+    let fit = all_fit g.args.o.now g.args.originals.now _ used _ Originals g.requires.halves_long.0 h.0 s.1 in
+    record { made = g.requires.made; fitting_rows = (few-rows g.args.o.now g.args.originals.now _ used h.0 s.0, fit) }
 
 pub returns : goal.returns
 unfolding trips_ok

@@ -20,8 +20,8 @@ pub outcome_at-found-requires : goal.outcome_at-found-requires
 outcome_at-found-requires c =
     record {
       made = c.requires.made;
-      i_in_bounds = (omega arith, c.requires.entry_words_len_bound);
-      differ_value = c.requires.differ_value;
+      row_there = (omega arith, c.requires.few_rows);
+      told_apart = c.requires.told_apart;
     }
 
 pub returns-then-not-is_accepted : goal.returns-then-not-is_accepted

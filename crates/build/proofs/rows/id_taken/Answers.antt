@@ -5,4 +5,4 @@ use Rattle.build.proofs.rows.id_taken.Goals as goal
 
 pub returns-then-differ : goal.returns-then-differ
 returns-then-differ c =
-    sym (before-none c.args.table.now c.args.i c.args.id c.requires.i_in_bounds c.requires.id_value (sym c.requires.differ_value ∙ c.if-differ.true))
+    sym (before-none c.args.table.now c.args.i c.args.id c.requires.row_there c.requires.own_id (sym c.requires.told_apart ∙ c.if-differ.true))

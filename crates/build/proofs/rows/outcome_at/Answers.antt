@@ -7,9 +7,9 @@ use Rattle.build.proofs.rows.outcome_at.Goals as goal
 pub id_taken-taken-requires : goal.id_taken-taken-requires
 id_taken-taken-requires c =
     record {
-      i_in_bounds = c.requires.i_in_bounds.0;
-      id_value = ap (λ (u : Trip). u.id) c.trip_at-t.ensures;
-      differ_value = c.requires.differ_value;
+      row_there = c.requires.row_there.0;
+      own_id = ap (λ (u : Trip). u.id) c.trip_at-t.ensures;
+      told_apart = c.requires.told_apart;
     }
 
 pub returns : goal.returns

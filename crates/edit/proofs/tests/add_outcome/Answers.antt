@@ -26,7 +26,7 @@ pub trips_of-trips-requires : goal.trips_of-trips-requires
 unfolding directory_length
 trips_of-trips-requires c =
     let words : Index = index c.args.directory.now c.args.originals.now c.args.replicas.now in
-    let in-index : Shown (scale c.args.ruler) words = shown _ _ (checked _ _ c.requires.replicas_value) (deep-ruler c.args.ruler c.requires.made) in
+    let in-index : Shown (scale c.args.ruler) words = shown _ _ (checked _ _ c.requires.checked) (deep-ruler c.args.ruler c.requires.made) in
     let g = c in
     rw c.bottom.ensures (deep-ruler g.args.ruler g.requires.made, omega (arith, in-index.size))
 
@@ -34,7 +34,7 @@ pub entries_of-copies-requires : goal.entries_of-copies-requires
 unfolding directory_length
 entries_of-copies-requires c =
     let words : Index = index c.args.directory.now c.args.originals.now c.args.replicas.now in
-    let in-index : Shown (scale c.args.ruler) words = shown _ _ (checked _ _ c.requires.replicas_value) (deep-ruler c.args.ruler c.requires.made) in
+    let in-index : Shown (scale c.args.ruler) words = shown _ _ (checked _ _ c.requires.checked) (deep-ruler c.args.ruler c.requires.made) in
     omega (arith, in-index.size)
 
 pub returns-then-trips-ge-MOST_TRIPS : goal.returns-then-trips-ge-MOST_TRIPS
@@ -42,7 +42,7 @@ unfolding refuse
 returns-then-trips-ge-MOST_TRIPS c =
     let words : Index = index c.args.directory.now c.args.originals.now c.args.replicas.now in
     let trips : List Trip = table_of (scale c.args.ruler) words in
-    let in-index : Shown (scale c.args.ruler) words = shown _ _ (checked _ _ c.requires.replicas_value) (deep-ruler c.args.ruler c.requires.made) in
+    let in-index : Shown (scale c.args.ruler) words = shown _ _ (checked _ _ c.requires.checked) (deep-ruler c.args.ruler c.requires.made) in
     let counted : (c.trips_of-trips.result ≡ length trips) × (c.entries_of-copies.result ≡ length (entries (scale c.args.ruler) Replicas trips)) =
     let g = c in
     let w = in-index in (
@@ -54,12 +54,12 @@ returns-then-trips-ge-MOST_TRIPS c =
     let w = in-index in
     let full : leb most_trips (length trips) ≡ true = le-leb most_trips (length trips)
     (omega (arith, counted.0, c.if-trips-ge-MOST_TRIPS.true)) in
-    c.refused.ensures ∙ sym (add-full (scale g.args.ruler) words g.args.t g.requires.replicas_value w true full)
+    c.refused.ensures ∙ sym (add-full (scale g.args.ruler) words g.args.t g.requires.checked w true full)
 
 pub slice_bounds-trip_outcome-end : goal.slice_bounds-trip_outcome-end
 slice_bounds-trip_outcome-end c =
     let words : Index = index c.args.directory.now c.args.originals.now c.args.replicas.now in
-    let in-index : Shown (scale c.args.ruler) words = shown _ _ (checked _ _ c.requires.replicas_value) (deep-ruler c.args.ruler c.requires.made) in
+    let in-index : Shown (scale c.args.ruler) words = shown _ _ (checked _ _ c.requires.checked) (deep-ruler c.args.ruler c.requires.made) in
     let trips : List Trip = table_of (scale c.args.ruler) words in
     let counted : (c.trips_of-trips.result ≡ length trips) × (c.entries_of-copies.result ≡ length (entries (scale c.args.ruler) Replicas trips)) =
     let g = c in
@@ -74,7 +74,7 @@ pub returns-then-not-is_accepted : goal.returns-then-not-is_accepted
 unfolding refuse
 returns-then-not-is_accepted c =
     let words : Index = index c.args.directory.now c.args.originals.now c.args.replicas.now in
-    let in-index : Shown (scale c.args.ruler) words = shown _ _ (checked _ _ c.requires.replicas_value) (deep-ruler c.args.ruler c.requires.made) in
+    let in-index : Shown (scale c.args.ruler) words = shown _ _ (checked _ _ c.requires.checked) (deep-ruler c.args.ruler c.requires.made) in
     let trips : List Trip = table_of (scale c.args.ruler) words in
     let counted : (c.trips_of-trips.result ≡ length trips) × (c.entries_of-copies.result ≡ length (entries (scale c.args.ruler) Replicas trips)) =
     let g = c in
@@ -94,13 +94,13 @@ returns-then-not-is_accepted c =
     let g = c in
     let is = row_is in
     let not_taken = sym (ap is_accepted is) ∙ sym c.is_accepted.ensures ∙ c.if-not-is_accepted.true in
-    is ∙ sym (add_row (scale g.args.ruler) words g.args.t g.requires.replicas_value in-index few not_taken)
+    is ∙ sym (add_row (scale g.args.ruler) words g.args.t g.requires.checked in-index few not_taken)
 
 pub lacks_room-requires : goal.lacks_room-requires
 unfolding refuse
 lacks_room-requires c =
     let words : Index = index c.args.directory.now c.args.originals.now c.args.replicas.now in
-    let in-index : Shown (scale c.args.ruler) words = shown _ _ (checked _ _ c.requires.replicas_value) (deep-ruler c.args.ruler c.requires.made) in
+    let in-index : Shown (scale c.args.ruler) words = shown _ _ (checked _ _ c.requires.checked) (deep-ruler c.args.ruler c.requires.made) in
     let trips : List Trip = table_of (scale c.args.ruler) words in
     let counted : (c.trips_of-trips.result ≡ length trips) × (c.entries_of-copies.result ≡ length (entries (scale c.args.ruler) Replicas trips)) =
     let g = c in
@@ -122,7 +122,7 @@ pub returns-then-lacks_room : goal.returns-then-lacks_room
 unfolding refuse
 returns-then-lacks_room c =
     let words : Index = index c.args.directory.now c.args.originals.now c.args.replicas.now in
-    let in-index : Shown (scale c.args.ruler) words = shown _ _ (checked _ _ c.requires.replicas_value) (deep-ruler c.args.ruler c.requires.made) in
+    let in-index : Shown (scale c.args.ruler) words = shown _ _ (checked _ _ c.requires.checked) (deep-ruler c.args.ruler c.requires.made) in
     let trips : List Trip = table_of (scale c.args.ruler) words in
     let counted : (c.trips_of-trips.result ≡ length trips) × (c.entries_of-copies.result ≡ length (entries (scale c.args.ruler) Replicas trips)) =
     let g = c in
@@ -143,7 +143,7 @@ returns-then-lacks_room c =
     let g = c in
     let row = row_ok in
     let last = last_cell_lem g.args.ruler g.requires.made g.args.t row.fits in
-    c.refused-then-lacks_room.ensures ∙ sym (add-room (scale g.args.ruler) words g.args.t g.requires.replicas_value in-index
+    c.refused-then-lacks_room.ensures ∙ sym (add-room (scale g.args.ruler) words g.args.t g.requires.checked in-index
     few row last counted true _
     (sym c.lacks_room.ensures ∙ c.if-lacks_room.true) refl)
 
@@ -151,7 +151,7 @@ pub lacks_room-requires-2 : goal.lacks_room-requires-2
 unfolding refuse
 lacks_room-requires-2 c =
     let words : Index = index c.args.directory.now c.args.originals.now c.args.replicas.now in
-    let in-index : Shown (scale c.args.ruler) words = shown _ _ (checked _ _ c.requires.replicas_value) (deep-ruler c.args.ruler c.requires.made) in
+    let in-index : Shown (scale c.args.ruler) words = shown _ _ (checked _ _ c.requires.checked) (deep-ruler c.args.ruler c.requires.made) in
     let trips : List Trip = table_of (scale c.args.ruler) words in
     let counted : (c.trips_of-trips.result ≡ length trips) × (c.entries_of-copies.result ≡ length (entries (scale c.args.ruler) Replicas trips)) =
     let g = c in
@@ -173,7 +173,7 @@ pub returns-then-lacks_room-2 : goal.returns-then-lacks_room-2
 unfolding refuse
 returns-then-lacks_room-2 c =
     let words : Index = index c.args.directory.now c.args.originals.now c.args.replicas.now in
-    let in-index : Shown (scale c.args.ruler) words = shown _ _ (checked _ _ c.requires.replicas_value) (deep-ruler c.args.ruler c.requires.made) in
+    let in-index : Shown (scale c.args.ruler) words = shown _ _ (checked _ _ c.requires.checked) (deep-ruler c.args.ruler c.requires.made) in
     let trips : List Trip = table_of (scale c.args.ruler) words in
     let counted : (c.trips_of-trips.result ≡ length trips) × (c.entries_of-copies.result ≡ length (entries (scale c.args.ruler) Replicas trips)) =
     let g = c in
@@ -194,7 +194,7 @@ returns-then-lacks_room-2 c =
     let g = c in
     let row = row_ok in
     let last = last_cell_lem g.args.ruler g.requires.made g.args.t row.fits in
-    c.refused-then-lacks_room-2.ensures ∙ sym (add-room (scale g.args.ruler) words g.args.t g.requires.replicas_value in-index
+    c.refused-then-lacks_room-2.ensures ∙ sym (add-room (scale g.args.ruler) words g.args.t g.requires.checked in-index
     few row last
     counted false true
     (sym c.lacks_room.ensures ∙ c.if-lacks_room.false)
@@ -204,7 +204,7 @@ pub returns : goal.returns
 unfolding refuse
 returns c =
     let words : Index = index c.args.directory.now c.args.originals.now c.args.replicas.now in
-    let in-index : Shown (scale c.args.ruler) words = shown _ _ (checked _ _ c.requires.replicas_value) (deep-ruler c.args.ruler c.requires.made) in
+    let in-index : Shown (scale c.args.ruler) words = shown _ _ (checked _ _ c.requires.checked) (deep-ruler c.args.ruler c.requires.made) in
     let trips : List Trip = table_of (scale c.args.ruler) words in
     let counted : (c.trips_of-trips.result ≡ length trips) × (c.entries_of-copies.result ≡ length (entries (scale c.args.ruler) Replicas trips)) =
     let g = c in
@@ -225,7 +225,7 @@ returns c =
     let g = c in
     let row = row_ok in
     let last = last_cell_lem g.args.ruler g.requires.made g.args.t row.fits in
-    sym (add-room (scale g.args.ruler) words g.args.t g.requires.replicas_value in-index
+    sym (add-room (scale g.args.ruler) words g.args.t g.requires.checked in-index
     few row last
     counted false false
     (sym c.lacks_room.ensures ∙ c.if-lacks_room.false) (sym c.lacks_room-2.ensures ∙ c.if-lacks_room-2.false))

@@ -6,10 +6,10 @@ use native.Mathlib.Omega.{arith}
 use Rattle.plan.proofs.range.plan_for.Goals as goal
 
 pub bottom_cell-f-requires : goal.bottom_cell-f-requires
-bottom_cell-f-requires c = record { made = c.requires.made; t = c.requires.on_ruler.starts }
+bottom_cell-f-requires c = record { made = c.requires.made; on_ruler = c.requires.on_ruler.starts }
 
 pub bottom_cell-l-requires : goal.bottom_cell-l-requires
-bottom_cell-l-requires c = record { made = c.requires.made; t = c.requires.on_ruler.ends }
+bottom_cell-l-requires c = record { made = c.requires.made; on_ruler = c.requires.on_ruler.ends }
 
 pub power-requires : goal.power-requires
 power-requires c = let s = c in

@@ -15,7 +15,7 @@ visited-requires c =
     let long = wrote_long v in
     let few = visit-few g.half (eqb s.parity.result 1) g.lo.0 g.lo.1 g.first.1 g.last.1 in
     rw (c.first_of_two.ensures, p.high_level)
-    record { n_in_bounds = (omega (arith, v.many, few), p.deep, omega (arith, p.high)); first_value = (p.first_level, p.last_level) }
+    record { n_in_bounds = (omega (arith, v.many, few), p.deep, omega (arith, p.high)); same_level = (p.first_level, p.last_level) }
 
 pub returns : goal.returns
 unfolding visits_at

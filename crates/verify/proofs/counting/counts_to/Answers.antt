@@ -21,14 +21,14 @@ partitions_holding-requires c =
     let g = c in
     let part = g.args.part.now in
     let t = trip_at part c.loop-k.k in
-    let fit = each_row part (fits (scale g.args.ruler)) g.requires.entry_words_len_bound.1 c.loop-k.k (omega arith) in
+    let fit = each_row part (fits (scale g.args.ruler)) g.requires.fitting_rows.1 c.loop-k.k (omega arith) in
     record { made = g.requires.made; fits = rw c.trip_at-t.ensures (of_fits (scale g.args.ruler) t (to_T fit)) }
 
 pub overflow_add-sum : goal.overflow_add-sum
 overflow_add-sum c =
     let g = c in
     let few = deepest_most (scale g.args.ruler) c.trip_at-t.result (deep-ruler g.args.ruler g.requires.made) in
-    omega (arith, c.partitions_holding.ensures, g.requires.entry_words_len_bound.0)
+    omega (arith, c.partitions_holding.ensures, g.requires.fitting_rows.0)
 
 pub loop-k-preserved : goal.loop-k-preserved
 loop-k-preserved c =
@@ -51,4 +51,4 @@ returns c =
     let k = c.loop-k in
     let all : sum_over (partitions_holding s) (rows part) ≡ k.sum = omega
     (arith, k.invariant.2, sum_end part (partitions_holding s) k.k (omega arith)) in
-    rw (g.requires.entry_words_len_bound.1, all)
+    rw (g.requires.fitting_rows.1, all)

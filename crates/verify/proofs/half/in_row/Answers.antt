@@ -45,7 +45,7 @@ loop-k-init c =
 
 pub trip_at-requires-in-loop-k : goal.trip_at-requires-in-loop-k
 trip_at-requires-in-loop-k c =
-    let there : c.loop-k.k < length c.args.part.now / entry_words = omega (arith, c.requires.n_value.0, c.loop-k-test.true) in
+    let there : c.loop-k.k < length c.args.part.now / entry_words = omega (arith, c.requires.counted.0, c.loop-k-test.true) in
     there
 
 pub stands-requires-in-loop-k : goal.stands-requires-in-loop-k
@@ -53,7 +53,7 @@ stands-requires-in-loop-k c = record { made = c.requires.made; frame_at = c.requ
 
 pub returns-then-not-stands-2 : goal.returns-then-not-stands-2
 returns-then-not-stands-2 c =
-    let there : c.loop-k.k < length c.args.part.now / entry_words = omega (arith, c.requires.n_value.0, c.loop-k-test.true) in
+    let there : c.loop-k.k < length c.args.part.now / entry_words = omega (arith, c.requires.counted.0, c.loop-k-test.true) in
     let k = c in
     let a = c.args in
     let p = stands_in (scale a.ruler) a.frame in
@@ -64,12 +64,12 @@ returns-then-not-stands-2 c =
 pub key_at-key-requires : goal.key_at-key-requires
 key_at-key-requires c =
     let in_entry : c.key_place-by.result < entry_words = rw c.key_place-by.ensures (place_in_entry c.args.d) in
-    let there : c.loop-k.k < length c.args.part.now / entry_words = omega (arith, c.requires.n_value.0, c.loop-k-test.true) in
+    let there : c.loop-k.k < length c.args.part.now / entry_words = omega (arith, c.requires.counted.0, c.loop-k-test.true) in
     (there, in_entry)
 
 pub returns-then-key-last : goal.returns-then-key-last
 returns-then-key-last c =
-    let there : c.loop-k.k < length c.args.part.now / entry_words = omega (arith, c.requires.n_value.0, c.loop-k-test.true) in
+    let there : c.loop-k.k < length c.args.part.now / entry_words = omega (arith, c.requires.counted.0, c.loop-k-test.true) in
     let stood : let a = c.args in stands_in (scale a.ruler) a.frame (trip_at a.part.now c.loop-k.k) ≡ true = rw c.trip_at-in-loop-k.ensures at (sym c.stands-in-loop-k.ensures ∙ c.if-not-stands-2.false) in
     let e = c in
     let k = c in
@@ -85,7 +85,7 @@ returns-then-key-last c =
 
 pub loop-k-preserved : goal.loop-k-preserved
 loop-k-preserved c =
-    let there : c.loop-k.k < length c.args.part.now / entry_words = omega (arith, c.requires.n_value.0, c.loop-k-test.true) in
+    let there : c.loop-k.k < length c.args.part.now / entry_words = omega (arith, c.requires.counted.0, c.loop-k-test.true) in
     let stood : let a = c.args in stands_in (scale a.ruler) a.frame (trip_at a.part.now c.loop-k.k) ≡ true = rw c.trip_at-in-loop-k.ensures at (sym c.stands-in-loop-k.ensures ∙ c.if-not-stands-2.false) in
     let e = c in
     let k = c in
@@ -109,5 +109,5 @@ returns c =
     let a = g.args in
     let p = stands_in (scale a.ruler) a.frame in
     let inv = k.loop-k.invariant in
-    let done : length a.part.now / entry_words ≤ k.loop-k.k = omega (arith, g.requires.n_value.0, c.loop-k-test.false) in
+    let done : length a.part.now / entry_words ≤ k.loop-k.k = omega (arith, g.requires.counted.0, c.loop-k-test.false) in
     sym (row_end a.part.now p (order a.d) inv.0 k.loop-k.k done) ∙ inv.3 a.d c.key_place-by.ensures

@@ -65,7 +65,7 @@ returns-then-dir-first c =
     let g = c in
     let a = g.args in
     let same = rw p.power-across.ensures at c.if-dir-first.true in
-    sym (level_empty (scale a.ruler) a.half a.dir.now a.arena.now g.requires.dir_len g.requires.arena_value a.level g.requires.made.1 same)
+    sym (level_empty (scale a.ruler) a.half a.dir.now a.arena.now g.requires.dir_len g.requires.half_passed a.level g.requires.made.1 same)
 
 pub loop-j-init : goal.loop-j-init
 loop-j-init c =
@@ -99,7 +99,7 @@ slot_at-requires c =
     rw (c.at-partition.ensures, k.loop-j.invariant.0) record {
       made = g.requires.made.0;
       partition_bound = (g.requires.made.1, omega arith, slot_number_lem L j);
-      part_there = slot_in a.dir.now a.arena.now _ g.requires.dir_len g.requires.arena_value (first_slot L + j) l;
+      part_there = slot_in a.dir.now a.arena.now _ g.requires.dir_len g.requires.half_passed (first_slot L + j) l;
     }
 
 pub returns-then-not-slot_at : goal.returns-then-not-slot_at

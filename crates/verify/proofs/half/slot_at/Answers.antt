@@ -26,7 +26,7 @@ in_row-requires c =
     let n = part_count a.dir.now a.arena.now a.k there in
     let some = f.if-from-to.false in
     rw (f.frame_of-frame.ensures, f.bottom.ensures, c.part_there.ensures)
-    record { made = s.requires.made; frame_at = frame_at _ _ _ _ _; n_value = (sym n, omega (arith, there.rises, some)) }
+    record { made = s.requires.made; frame_at = frame_at _ _ _ _ _; counted = (sym n, omega (arith, there.rises, some)) }
 
 pub returns : goal.returns
 unfolding slot_at

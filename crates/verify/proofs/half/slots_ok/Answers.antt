@@ -17,7 +17,7 @@ level_ok-requires c =
     record {
       made = (g.requires.made, omega (arith, c.loop-level-test.true, c.bottom-m.ensures));
       dir_len = g.requires.dir_len;
-      arena_value = g.requires.arena_value;
+      half_passed = g.requires.half_passed;
     }
 
 pub returns-then-not-level_ok : goal.returns-then-not-level_ok

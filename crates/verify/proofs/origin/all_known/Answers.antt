@@ -22,12 +22,12 @@ is_known-requires c =
     let g = c in
     let k = c.loop-k.k in
     let read = c.trip_at-t.ensures in
-    let fit = each_row g.args.part.now (fits (scale g.args.ruler)) g.requires.part_value k (omega arith) in
+    let fit = each_row g.args.part.now (fits (scale g.args.ruler)) g.requires.rows_fit k (omega arith) in
     record {
       made = g.requires.made;
       dir_len = g.requires.dir_len;
-      originals_value = g.requires.originals_value;
-      t_value = (rw read fit, rw read c.key_at-key.ensures);
+      originals_passed = g.requires.originals_passed;
+      trip_fits = (rw read fit, rw read c.key_at-key.ensures);
     }
 
 pub returns-then-not-is_known : goal.returns-then-not-is_known

@@ -13,13 +13,13 @@ use Rattle.verify.proofs.origin.is_known.Goals as goal
 
 pub home-requires : goal.home-requires
 home-requires c =
-    let trip-fits : Fits (scale c.args.ruler) c.args.t = of_fits (scale c.args.ruler) c.args.t (to_T c.requires.t_value.0) in
+    let trip-fits : Fits (scale c.args.ruler) c.args.t = of_fits (scale c.args.ruler) c.args.t (to_T c.requires.trip_fits.0) in
     record { made = c.requires.made; fits = trip-fits }
 
 pub slot_has-requires : goal.slot_has-requires
 unfolding half_length
 slot_has-requires c =
-    let trip-fits : Fits (scale c.args.ruler) c.args.t = of_fits (scale c.args.ruler) c.args.t (to_T c.requires.t_value.0) in
+    let trip-fits : Fits (scale c.args.ruler) c.args.t = of_fits (scale c.args.ruler) c.args.t (to_T c.requires.trip_fits.0) in
     let g = c in
     let r = g.args.ruler in
     let dir = g.args.dir.now in
@@ -27,10 +27,10 @@ slot_has-requires c =
     let k = c.home.result in
     let l : k < 2 * partitions (scale r).m = rw c.home.ensures (home_in r g.args.t g.requires.made trip-fits) in
     let long = g.requires.dir_len in
-    let passed = g.requires.originals_value in
+    let passed = g.requires.originals_passed in
     record {
       part_there = slot_in dir originals _ long passed.0 k l;
-      key_value = g.requires.t_value.1;
+      keyed = g.requires.trip_fits.1;
       in_order = slot_in_order (scale r) dir originals _ long passed.1 k l;
     }
 
@@ -38,4 +38,4 @@ pub returns : goal.returns
 unfolding is_known
 returns c =
     let g = c in
-    rw (g.requires.t_value.0, ← c.home.ensures) c.slot_has.ensures
+    rw (g.requires.trip_fits.0, ← c.home.ensures) c.slot_has.ensures

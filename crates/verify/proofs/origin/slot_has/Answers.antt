@@ -15,8 +15,8 @@ has_trip-requires c =
     let n = part_entries g.args.dir.now g.args.originals.now g.args.k _ g.requires.part_there in
     let part = c.part_there.ensures in
     record {
-      n_value = sym n ∙ ap (λ (l : List ℕ). length l / entry_words) (sym part);
-      key_value = g.requires.key_value;
+      counted = sym n ∙ ap (λ (l : List ℕ). length l / entry_words) (sym part);
+      keyed = g.requires.keyed;
       in_order = rw part g.requires.in_order;
     }
 

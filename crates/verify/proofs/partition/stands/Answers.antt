@@ -16,7 +16,7 @@ bottom_cell-requires c =
     let fit : let a = c.args in Fits (scale a.ruler) a.t =
     let a = c.args in
     of_fits (scale a.ruler) a.t (to_T (sym c.fits.ensures ∙ c.if-not-fits.false)) in
-    record { made = c.requires.made; t = fit.times.starts }
+    record { made = c.requires.made; on_ruler = fit.times.starts }
 
 pub has-requires : goal.has-requires
 has-requires c = rw c.bottom_cell.ensures c.requires.frame_at.starts_at
@@ -34,7 +34,7 @@ bottom_cell-requires-2 c =
     let fit : let a = c.args in Fits (scale a.ruler) a.t =
     let a = c.args in
     of_fits (scale a.ruler) a.t (to_T (sym c.fits.ensures ∙ c.if-not-fits.false)) in
-    record { made = c.requires.made; t = fit.times.ends }
+    record { made = c.requires.made; on_ruler = fit.times.ends }
 
 pub has-requires-2 : goal.has-requires-2
 has-requires-2 c = rw c.bottom_cell-2.ensures c.requires.frame_at.ends_at

@@ -40,7 +40,7 @@ overflow_add-count c =
     let o = g.originals.now in
     let r = g.replicas.now in
     let seen = look_seen g.sought d o r g.level q.k c.look_at-look.ensures c.part_of-part.ensures in
-    let few = simp length-append at (look-room s.requires.level_there t c.loop-k-test.true q.invariant.1 s.requires.level_len_bound) in
+    let few = simp length-append at (look-room s.requires.level_there t c.loop-k-test.true q.invariant.1 s.requires.few_matches) in
     omega (arith, c.count_part-count.ensures, ap length seen)
 
 pub loop-k-preserved : goal.loop-k-preserved

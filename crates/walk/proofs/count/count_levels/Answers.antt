@@ -25,9 +25,9 @@ count_level-count-requires c =
     let q = c.loop-up in
     let at_level : c.stretches_at-level.result ≡ stretches_at g.plan (g.plan.low.0 - q.up) =
     c.stretches_at-level.ensures ∙ ap (λ (m : ℕ). stretches_at g.plan (m - q.up)) q.invariant.1 in
-    let room = row_room level-row q.up (g.plan.low.0 + 1) (omega arith) s.requires.plan_len_bound in
+    let room = row_room level-row q.up (g.plan.low.0 + 1) (omega arith) s.requires.few_matches in
     let few = simp length-append at room in
-    rw at_level record { level_there = s.requires.levels_there.there (g.plan.low.0 - q.up) (omega arith); level_len_bound = omega arith }
+    rw at_level record { level_there = s.requires.levels_there.there (g.plan.low.0 - q.up) (omega arith); few_matches = omega arith }
 
 pub overflow_add-count : goal.overflow_add-count
 overflow_add-count c =
@@ -37,7 +37,7 @@ overflow_add-count c =
     let q = c.loop-up in
     let at_level : c.stretches_at-level.result ≡ stretches_at g.plan (g.plan.low.0 - q.up) =
     c.stretches_at-level.ensures ∙ ap (λ (m : ℕ). stretches_at g.plan (m - q.up)) q.invariant.1 in
-    let room = row_room level-row q.up (g.plan.low.0 + 1) (omega arith) s.requires.plan_len_bound in
+    let room = row_room level-row q.up (g.plan.low.0 + 1) (omega arith) s.requires.few_matches in
     let few = simp length-append at room in
     let k = rw at_level at c.count_level-count.ensures in
     omega arith
@@ -50,7 +50,7 @@ loop-up-preserved c =
     let q = c.loop-up in
     let at_level : c.stretches_at-level.result ≡ stretches_at g.plan (g.plan.low.0 - q.up) =
     c.stretches_at-level.ensures ∙ ap (λ (m : ℕ). stretches_at g.plan (m - q.up)) q.invariant.1 in
-    let room = row_room level-row q.up (g.plan.low.0 + 1) (omega arith) s.requires.plan_len_bound in
+    let room = row_room level-row q.up (g.plan.low.0 + 1) (omega arith) s.requires.few_matches in
     let k = rw at_level at c.count_level-count.ensures in
     let n = simp length-append at (ap length (row_more level-row q.up)) in
     (omega arith, q.invariant.1, omega arith)

@@ -34,28 +34,28 @@ pub offset_bounds-out-count : goal.offset_bounds-out-count
 offset_bounds-out-count c =
     let s = c in
     let q = c.loop-k in
-    let fits = look-fits s.requires.level_there _ c.loop-k-test.true q.invariant.1 q.invariant.3 s.requires.level_in_bounds in
+    let fits = look-fits s.requires.level_there _ c.loop-k-test.true q.invariant.1 q.invariant.3 s.requires.room in
     omega arith
 
 pub slice_bounds-list_part-count : goal.slice_bounds-list_part-count
 slice_bounds-list_part-count c =
     let s = c in
     let q = c.loop-k in
-    let fits = look-fits s.requires.level_there _ c.loop-k-test.true q.invariant.1 q.invariant.3 s.requires.level_in_bounds in
+    let fits = look-fits s.requires.level_there _ c.loop-k-test.true q.invariant.1 q.invariant.3 s.requires.room in
     omega arith
 
 pub slice_bounds-list_part-start : goal.slice_bounds-list_part-start
 slice_bounds-list_part-start c =
     let s = c in
     let q = c.loop-k in
-    let fits = look-fits s.requires.level_there _ c.loop-k-test.true q.invariant.1 q.invariant.3 s.requires.level_in_bounds in
+    let fits = look-fits s.requires.level_there _ c.loop-k-test.true q.invariant.1 q.invariant.3 s.requires.room in
     search rules
 
 pub slice_bounds-list_part-end : goal.slice_bounds-list_part-end
 slice_bounds-list_part-end c =
     let s = c in
     let q = c.loop-k in
-    let fits = look-fits s.requires.level_there _ c.loop-k-test.true q.invariant.1 q.invariant.3 s.requires.level_in_bounds in
+    let fits = look-fits s.requires.level_there _ c.loop-k-test.true q.invariant.1 q.invariant.3 s.requires.room in
     search rules
 
 pub list_part-count-requires : goal.list_part-count-requires
@@ -68,7 +68,7 @@ list_part-count-requires c =
     let o = g.originals.now in
     let r = g.replicas.now in
     let seen = look_seen g.sought d o r g.level q.k c.look_at-look.ensures c.part_of-part.ensures in
-    let fits = look-fits s.requires.level_there t c.loop-k-test.true q.invariant.1 q.invariant.3 s.requires.level_in_bounds in
+    let fits = look-fits s.requires.level_there t c.loop-k-test.true q.invariant.1 q.invariant.3 s.requires.room in
     omega (arith, ap length seen, lent_room q.out q.count _ fits)
 
 pub overflow_add-count : goal.overflow_add-count
@@ -83,7 +83,7 @@ overflow_add-count c =
     let look = c.look_at-look.ensures in
     let seen = look_seen g.sought d o r g.level q.k look c.part_of-part.ensures in
     let taken = c.loop-k-test.true in
-    let fits = look-fits s.requires.level_there t taken q.invariant.1 q.invariant.3 s.requires.level_in_bounds in
+    let fits = look-fits s.requires.level_there t taken q.invariant.1 q.invariant.3 s.requires.room in
     omega (arith, ap length seen, c.list_part-count.ensures.counted)
 
 pub overflow_add-k : goal.overflow_add-k
@@ -104,7 +104,7 @@ loop-k-preserved c =
     let taken = c.loop-k-test.true in
     let look = c.look_at-look.ensures in
     let seen = look_seen g.sought d o r g.level q.k look c.part_of-part.ensures in
-    let room = look-room s.requires.level_there t taken q.invariant.1 s.requires.level_in_bounds in
+    let room = look-room s.requires.level_there t taken q.invariant.1 s.requires.room in
     let k = rw seen at c.list_part-count.ensures in
     let more = listed_more q.invariant.3 (lent_back q.out q.count k) in
     (omega (arith, taken), q.invariant.1, listed-length more room, rw (row_more (level_look t d o r g.level) q.k) more)

@@ -22,19 +22,19 @@ pub offset_bounds-answers-count : goal.offset_bounds-answers-count
 offset_bounds-answers-count c =
     let s = c in
     let q = c.loop-up in
-    let fits = row_fits _ _ q.invariant.3 (omega arith) s.requires.plan_in_bounds in
+    let fits = row_fits _ _ q.invariant.3 (omega arith) s.requires.room in
     omega arith
 
 pub slice_bounds-list_level-count : goal.slice_bounds-list_level-count
-slice_bounds-list_level-count c = omega (arith, row_fits _ _ c.loop-up.invariant.3 (omega arith) c.requires.plan_in_bounds)
+slice_bounds-list_level-count c = omega (arith, row_fits _ _ c.loop-up.invariant.3 (omega arith) c.requires.room)
 
 pub slice_bounds-list_level-start : goal.slice_bounds-list_level-start
 slice_bounds-list_level-start c = let fits = row_fits _ _ c.loop-up.invariant.3 (omega arith)
-    c.requires.plan_in_bounds in search rules
+    c.requires.room in search rules
 
 pub slice_bounds-list_level-end : goal.slice_bounds-list_level-end
 slice_bounds-list_level-end c = let fits = row_fits _ _ c.loop-up.invariant.3 (omega arith)
-    c.requires.plan_in_bounds in search rules
+    c.requires.room in search rules
 
 pub list_level-count-requires : goal.list_level-count-requires
 list_level-count-requires c =
@@ -44,9 +44,9 @@ list_level-count-requires c =
     let q = c.loop-up in
     let at_level : c.stretches_at-level.result ≡ stretches_at g.plan (g.plan.low.0 - q.up) =
     c.stretches_at-level.ensures ∙ ap (λ (m : ℕ). stretches_at g.plan (m - q.up)) q.invariant.1 in
-    let room = row_room level-row q.up (g.plan.low.0 + 1) (omega arith) s.requires.plan_in_bounds in
+    let room = row_room level-row q.up (g.plan.low.0 + 1) (omega arith) s.requires.room in
     let fits = rest-room q.invariant.3 _ room in
-    rw at_level record { level_there = s.requires.levels_there.there (g.plan.low.0 - q.up) (omega arith); level_in_bounds = lent_room q.answers q.count _ fits }
+    rw at_level record { level_there = s.requires.levels_there.there (g.plan.low.0 - q.up) (omega arith); room = lent_room q.answers q.count _ fits }
 
 pub overflow_add-count : goal.overflow_add-count
 overflow_add-count c =
@@ -56,7 +56,7 @@ overflow_add-count c =
     let q = c.loop-up in
     let at_level : c.stretches_at-level.result ≡ stretches_at g.plan (g.plan.low.0 - q.up) =
     c.stretches_at-level.ensures ∙ ap (λ (m : ℕ). stretches_at g.plan (m - q.up)) q.invariant.1 in
-    let room = row_room level-row q.up (g.plan.low.0 + 1) (omega arith) s.requires.plan_in_bounds in
+    let room = row_room level-row q.up (g.plan.low.0 + 1) (omega arith) s.requires.room in
     let fits = rest-room q.invariant.3 _ room in
     let k = rw at_level at c.list_level-count.ensures in
     omega (arith, k.counted)
@@ -76,7 +76,7 @@ loop-up-preserved c =
     let q = c.loop-up in
     let at_level : c.stretches_at-level.result ≡ stretches_at g.plan (g.plan.low.0 - q.up) =
     c.stretches_at-level.ensures ∙ ap (λ (m : ℕ). stretches_at g.plan (m - q.up)) q.invariant.1 in
-    let room = row_room level-row q.up (g.plan.low.0 + 1) (omega arith) s.requires.plan_in_bounds in
+    let room = row_room level-row q.up (g.plan.low.0 + 1) (omega arith) s.requires.room in
     let k = rw at_level at c.list_level-count.ensures in
     let more = listed_more q.invariant.3 (lent_back q.answers q.count k) in
     (omega arith, q.invariant.1, listed-length more room, rw (row_more level-row q.up) more)
