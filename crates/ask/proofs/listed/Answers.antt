@@ -21,56 +21,51 @@ use Rattle.ask.proofs.listed.Goals as goal
 
 pub sought_by-sought-requires : goal.sought_by-sought-requires
 sought_by-sought-requires c =
-    let s = c in
-    let g = s.args in
+    let g = c.args in
     let x = index g.directory.now g.originals.now g.replicas.now in
-    window_near g.ruler s.requires.made x s.requires.indexed g.question s.requires.on_ruler
+    window_near g.ruler c.requires.made x c.requires.indexed g.question c.requires.on_ruler
 
 pub trips_of-trips-requires : goal.trips_of-trips-requires
 trips_of-trips-requires c =
-    let s = c in
-    let g = s.args in
+    let g = c.args in
     let x = index g.directory.now g.originals.now g.replicas.now in
-    let deep = deep-ruler g.ruler s.requires.made in
-    rw c.bottom.ensures (deep, trips_in g.ruler s.requires.made x s.requires.indexed g.question s.requires.on_ruler)
+    let deep = deep-ruler g.ruler c.requires.made in
+    rw c.bottom.ensures (deep, trips_in g.ruler c.requires.made x c.requires.indexed g.question c.requires.on_ruler)
 
 pub room_for-room-requires : goal.room_for-room-requires
 room_for-room-requires c =
-    let s = c in
-    let g = s.args in
+    let g = c.args in
     let x = index g.directory.now g.originals.now g.replicas.now in
-    let same = same_listing g.ruler s.requires.made x s.requires.indexed g.question s.requires.on_ruler c.sought_by-sought.ensures
+    let same = same_listing g.ruler c.requires.made x c.requires.indexed g.question c.requires.on_ruler c.sought_by-sought.ensures
     c.plan_for-plan.ensures in
     let trips = c.trips_of-trips.ensures ∙ ap (λ (m : ℕ). get_or g.directory.now (2 * partitions m) 0) c.bottom.ensures
-    ∙ trips_word g.ruler s.requires.made x s.requires.indexed g.question s.requires.on_ruler in
-    let few = listing_few g.ruler s.requires.made x s.requires.indexed g.question s.requires.on_ruler in
-    let most = trips_few g.ruler s.requires.made x s.requires.indexed g.question s.requires.on_ruler in record { levels_there = same-there g.ruler s.requires.made x s.requires.indexed g.question s.requires.on_ruler c.plan_for-plan.ensures; few_matches = (omega (arith, ap length same), omega arith) }
+    ∙ trips_word g.ruler c.requires.made x c.requires.indexed g.question c.requires.on_ruler in
+    let few = listing_few g.ruler c.requires.made x c.requires.indexed g.question c.requires.on_ruler in
+    let most = trips_few g.ruler c.requires.made x c.requires.indexed g.question c.requires.on_ruler in record { levels_there = same-there g.ruler c.requires.made x c.requires.indexed g.question c.requires.on_ruler c.plan_for-plan.ensures; few_matches = (omega (arith, ap length same), omega arith) }
 
 pub returns-in-Refused : goal.returns-in-Refused
 unfolding listed_of
 returns-in-Refused c =
-    let s = c in
-    let g = s.args in
+    let g = c.args in
     let x = index g.directory.now g.originals.now g.replicas.now in
-    let same = same_listing g.ruler s.requires.made x s.requires.indexed g.question s.requires.on_ruler
+    let same = same_listing g.ruler c.requires.made x c.requires.indexed g.question c.requires.on_ruler
     c.sought_by-sought.ensures
     c.plan_for-plan.ensures in
     let told = c.in-Refused.is in
-    let long = ap length same ∙ listing_length g.ruler s.requires.made x s.requires.indexed g.question s.requires.on_ruler in
+    let long = ap length same ∙ listing_length g.ruler c.requires.made x c.requires.indexed g.question c.requires.on_ruler in
     let room = ap (λ (n : ℕ). room_test n (length g.answers.now)) (sym long) ∙ sym c.room_for-room.ensures ∙ told in
     ends_refused _ _ _ _ room c.refused.ensures.0 c.refused.ensures.1
 
 pub list_levels-count-requires : goal.list_levels-count-requires
 list_levels-count-requires c =
-    let s = c in
-    let g = s.args in
+    let g = c.args in
     let x = index g.directory.now g.originals.now g.replicas.now in
-    let same = same_listing g.ruler s.requires.made x s.requires.indexed g.question s.requires.on_ruler
+    let same = same_listing g.ruler c.requires.made x c.requires.indexed g.question c.requires.on_ruler
     c.sought_by-sought.ensures
     c.plan_for-plan.ensures in
     let told = c.in_default.is in
     let room = c.room_for-room.ensures in record {
-      levels_there = same-there g.ruler s.requires.made x s.requires.indexed g.question s.requires.on_ruler
+      levels_there = same-there g.ruler c.requires.made x c.requires.indexed g.question c.requires.on_ruler
           c.plan_for-plan.ensures;
       room = of_room _ _ (sym room ∙ told);
     }
@@ -86,27 +81,25 @@ slice_bounds-sort_ids-end c =
 
 pub overflow_cast-result : goal.overflow_cast-result
 overflow_cast-result c =
-    let s = c in
-    let g = s.args in
+    let g = c.args in
     let x = index g.directory.now g.originals.now g.replicas.now in
-    let same = same_listing g.ruler s.requires.made x s.requires.indexed g.question s.requires.on_ruler
+    let same = same_listing g.ruler c.requires.made x c.requires.indexed g.question c.requires.on_ruler
     c.sought_by-sought.ensures c.plan_for-plan.ensures in
-    let few = listing_few g.ruler s.requires.made x s.requires.indexed g.question s.requires.on_ruler in
-    let most = trips_few g.ruler s.requires.made x s.requires.indexed g.question s.requires.on_ruler in
+    let few = listing_few g.ruler c.requires.made x c.requires.indexed g.question c.requires.on_ruler in
+    let most = trips_few g.ruler c.requires.made x c.requires.indexed g.question c.requires.on_ruler in
     omega (arith, ap length same, c.list_levels-count.ensures.counted)
 
 pub returns : goal.returns
 returns c =
-    let s = c in
-    let g = s.args in
+    let g = c.args in
     let x = index g.directory.now g.originals.now g.replicas.now in
-    let same = same_listing g.ruler s.requires.made x s.requires.indexed g.question s.requires.on_ruler
+    let same = same_listing g.ruler c.requires.made x c.requires.indexed g.question c.requires.on_ruler
     c.sought_by-sought.ensures c.plan_for-plan.ensures in
     let told = c.in_default.is in
     let room = c.room_for-room.ensures in
-    let long = ap length same ∙ listing_length g.ruler s.requires.made x s.requires.indexed g.question s.requires.on_ruler in
+    let long = ap length same ∙ listing_length g.ruler c.requires.made x c.requires.indexed g.question c.requires.on_ruler in
     let l = c.list_levels-count.ensures in
     let over = sorted_over _ {k = c.list_levels-count.result - 0} l (omega arith)
-    (ap (λ (ts : List Trip). ascending (ids ts)) same ∙ listing_answer g.ruler s.requires.made x s.requires.indexed g.question s.requires.on_ruler)
+    (ap (λ (ts : List Trip). ascending (ids ts)) same ∙ listing_answer g.ruler c.requires.made x c.requires.indexed g.question c.requires.on_ruler)
     c.sort_ids.ensures in
     ends-accepted _ _ (ap (λ (n : ℕ). room_test n (length g.answers.now)) (sym long) ∙ sym room ∙ told) (l.counted ∙ long) over

@@ -8,24 +8,21 @@ use Rattle.edit.proofs.add_checked.Goals as goal
 
 pub returns-then-not-is_accepted : goal.returns-then-not-is_accepted
 returns-then-not-is_accepted c =
-    let g = c in
-    let s = scale g.args.ruler in
-    let x = index g.args.directory.now g.args.originals.now g.args.replicas.now in
-    add_refused s x g.args.t _ (sym c.is_accepted.ensures ∙ c.if-not-is_accepted.true) c.add_outcome-outcome.ensures
+    let s = scale c.args.ruler in
+    let x = index c.args.directory.now c.args.originals.now c.args.replicas.now in
+    add_refused s x c.args.t _ (sym c.is_accepted.ensures ∙ c.if-not-is_accepted.true) c.add_outcome-outcome.ensures
 
 pub put_in-requires : goal.put_in-requires
 put_in-requires c =
-    let g = c in
-    let s = scale g.args.ruler in
-    let x = index g.args.directory.now g.args.originals.now g.args.replicas.now in
+    let s = scale c.args.ruler in
+    let x = index c.args.directory.now c.args.originals.now c.args.replicas.now in
     let taken = is-accepted _ (sym c.is_accepted.ensures ∙ c.if-not-is_accepted.false) in
-    record { made = g.requires.made; accepted = sym c.add_outcome-outcome.ensures ∙ taken }
+    record { made = c.requires.made; accepted = sym c.add_outcome-outcome.ensures ∙ taken }
 
 pub returns : goal.returns
 returns c =
-    let g = c in
-    let s = scale g.args.ruler in
-    let x = index g.args.directory.now g.args.originals.now g.args.replicas.now in
+    let s = scale c.args.ruler in
+    let x = index c.args.directory.now c.args.originals.now c.args.replicas.now in
     let taken = is-accepted _ (sym c.is_accepted.ensures ∙ c.if-not-is_accepted.false) in
-    add-accepted s x _ g.args.t (sym c.add_outcome-outcome.ensures ∙ taken)
+    add-accepted s x _ c.args.t (sym c.add_outcome-outcome.ensures ∙ taken)
     c.put_in.ensures

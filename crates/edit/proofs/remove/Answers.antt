@@ -17,11 +17,10 @@ remove_checked-requires c =
 
 pub returns-in-Index : goal.returns-in-Index
 returns-in-Index c =
-    let far = c in
     let a = c.args in
     let x = index a.directory.now a.originals.now a.replicas.now in
     let w = opened a.numbers x c.in-Index.ruler c.open-opened.ensures c.in-Index.is in
-    far.remove_checked.ensures ∙ ap (λ (n : Numbers). remove_of (scale_of n) x a.id) w.numbers
+    c.remove_checked.ensures ∙ ap (λ (n : Numbers). remove_of (scale_of n) x a.id) w.numbers
 
 pub returns-in-Refused : goal.returns-in-Refused
 returns-in-Refused c =

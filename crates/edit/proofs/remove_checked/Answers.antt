@@ -20,16 +20,14 @@ unfolding directory_length
 trips_of-trips-requires c =
     let words : Index = index c.args.directory.now c.args.originals.now c.args.replicas.now in
     let in-index : Shown (scale c.args.ruler) words = shown _ _ (checked _ _ c.requires.checked) (deep-ruler c.args.ruler c.requires.made) in
-    let g = c in
-    rw c.bottom.ensures (deep-ruler g.args.ruler g.requires.made, omega (arith, in-index.size))
+    rw c.bottom.ensures (deep-ruler c.args.ruler c.requires.made, omega (arith, in-index.size))
 
 pub overflow_mul-used : goal.overflow_mul-used
 overflow_mul-used c =
     let words : Index = index c.args.directory.now c.args.originals.now c.args.replicas.now in
     let in-index : Shown (scale c.args.ruler) words = shown _ _ (checked _ _ c.requires.checked) (deep-ruler c.args.ruler c.requires.made) in
     let counted : c.trips_of-trips.result ≡ length (table_of (scale c.args.ruler) words) =
-    let g = c in
-    c.trips_of-trips.ensures ∙ ap (λ (m : ℕ). get_or g.args.directory.now (2 * partitions m) 0) c.bottom.ensures
+    c.trips_of-trips.ensures ∙ ap (λ (m : ℕ). get_or c.args.directory.now (2 * partitions m) 0) c.bottom.ensures
     ∙ in-index.trips in
     omega (arith, in-index, counted)
 
@@ -38,8 +36,7 @@ slice_bounds-find_id-end c =
     let words : Index = index c.args.directory.now c.args.originals.now c.args.replicas.now in
     let in-index : Shown (scale c.args.ruler) words = shown _ _ (checked _ _ c.requires.checked) (deep-ruler c.args.ruler c.requires.made) in
     let counted : c.trips_of-trips.result ≡ length (table_of (scale c.args.ruler) words) =
-    let g = c in
-    c.trips_of-trips.ensures ∙ ap (λ (m : ℕ). get_or g.args.directory.now (2 * partitions m) 0) c.bottom.ensures
+    c.trips_of-trips.ensures ∙ ap (λ (m : ℕ). get_or c.args.directory.now (2 * partitions m) 0) c.bottom.ensures
     ∙ in-index.trips in
     omega (arith, in-index, counted)
 
@@ -48,16 +45,14 @@ returns-then-trips-place c =
     let words : Index = index c.args.directory.now c.args.originals.now c.args.replicas.now in
     let in-index : Shown (scale c.args.ruler) words = shown _ _ (checked _ _ c.requires.checked) (deep-ruler c.args.ruler c.requires.made) in
     let counted : c.trips_of-trips.result ≡ length (table_of (scale c.args.ruler) words) =
-    let g = c in
-    c.trips_of-trips.ensures ∙ ap (λ (m : ℕ). get_or g.args.directory.now (2 * partitions m) 0) c.bottom.ensures
+    c.trips_of-trips.ensures ∙ ap (λ (m : ℕ). get_or c.args.directory.now (2 * partitions m) 0) c.bottom.ensures
     ∙ in-index.trips in
-    let g = c in
-    let s = scale g.args.ruler in
-    let x = index g.args.directory.now g.args.originals.now g.args.replicas.now in
+    let s = scale c.args.ruler in
+    let x = index c.args.directory.now c.args.originals.now c.args.replicas.now in
     let w = in-index in
     let read = ap (λ (k : ℕ). rows (take (entry_words * k - 0) x.originals)) counted ∙ w.listed in
-    let place = c.find_id-place.ensures ∙ ap (place_of_id g.args.id) read in
-    not_found s x g.args.id _ g.requires.checked w place _ (omega (arith, counted, c.if-trips-place.true))
+    let place = c.find_id-place.ensures ∙ ap (place_of_id c.args.id) read in
+    not_found s x c.args.id _ c.requires.checked w place _ (omega (arith, counted, c.if-trips-place.true))
     c.refused.ensures
 
 pub trip_at-t-requires : goal.trip_at-t-requires
@@ -73,40 +68,36 @@ take_out-requires c =
     let words : Index = index c.args.directory.now c.args.originals.now c.args.replicas.now in
     let in-index : Shown (scale c.args.ruler) words = shown _ _ (checked _ _ c.requires.checked) (deep-ruler c.args.ruler c.requires.made) in
     let counted : c.trips_of-trips.result ≡ length (table_of (scale c.args.ruler) words) =
-    let g = c in
-    c.trips_of-trips.ensures ∙ ap (λ (m : ℕ). get_or g.args.directory.now (2 * partitions m) 0) c.bottom.ensures
+    c.trips_of-trips.ensures ∙ ap (λ (m : ℕ). get_or c.args.directory.now (2 * partitions m) 0) c.bottom.ensures
     ∙ in-index.trips in
-    let g = c in
-    let s = scale g.args.ruler in
-    let x = index g.args.directory.now g.args.originals.now g.args.replicas.now in
+    let s = scale c.args.ruler in
+    let x = index c.args.directory.now c.args.originals.now c.args.replicas.now in
     let w = in-index in
     let read = ap (λ (k : ℕ). rows (take (entry_words * k - 0) x.originals))
     counted ∙ w.listed in
-    let place = c.find_id-place.ensures ∙ ap (place_of_id g.args.id) read in
-    let f = found s x g.args.id _ g.requires.checked w place c.trip_at-t.result (omega (
+    let place = c.find_id-place.ensures ∙ ap (place_of_id c.args.id) read in
+    let f = found s x c.args.id _ c.requires.checked w place c.trip_at-t.result (omega (
       arith,
       counted,
       c.if-trips-place.false,
     ))
     c.trip_at-t.ensures in
-    record { made = g.requires.made; accepted = rw f.same f.accepted; listed = f.member }
+    record { made = c.requires.made; accepted = rw f.same f.accepted; listed = f.member }
 
 pub returns : goal.returns
 returns c =
     let words : Index = index c.args.directory.now c.args.originals.now c.args.replicas.now in
     let in-index : Shown (scale c.args.ruler) words = shown _ _ (checked _ _ c.requires.checked) (deep-ruler c.args.ruler c.requires.made) in
     let counted : c.trips_of-trips.result ≡ length (table_of (scale c.args.ruler) words) =
-    let g = c in
-    c.trips_of-trips.ensures ∙ ap (λ (m : ℕ). get_or g.args.directory.now (2 * partitions m) 0) c.bottom.ensures
+    c.trips_of-trips.ensures ∙ ap (λ (m : ℕ). get_or c.args.directory.now (2 * partitions m) 0) c.bottom.ensures
     ∙ in-index.trips in
-    let g = c in
-    let s = scale g.args.ruler in
-    let x = index g.args.directory.now g.args.originals.now g.args.replicas.now in
+    let s = scale c.args.ruler in
+    let x = index c.args.directory.now c.args.originals.now c.args.replicas.now in
     let w = in-index in
     let read = ap (λ (k : ℕ). rows (take (entry_words * k - 0) x.originals)) counted ∙ w.listed in
-    let place = c.find_id-place.ensures ∙ ap (place_of_id g.args.id) read in
-    let f = found s x g.args.id _ g.requires.checked w place c.trip_at-t.result
+    let place = c.find_id-place.ensures ∙ ap (place_of_id c.args.id) read in
+    let f = found s x c.args.id _ c.requires.checked w place c.trip_at-t.result
     (omega (arith, counted, c.if-trips-place.false))
     c.trip_at-t.ensures in
-    remove-accepted s x _ g.args.id f.accepted (c.take_out.ensures
+    remove-accepted s x _ c.args.id f.accepted (c.take_out.ensures
     ∙ ap (λ (k : ℕ). layout s (without k (table_of s x)) (lengths_of x)) f.same)

@@ -11,65 +11,57 @@ use native.Mathlib.Omega.{arith}
 use Rattle.edit.proofs.take_out.Goals as goal
 
 pub half_length-middle-requires : goal.half_length-middle-requires
-half_length-middle-requires c = let s = c in rw c.bottom.ensures (deep-ruler s.args.ruler s.requires.made)
+half_length-middle-requires c = rw c.bottom.ensures (deep-ruler c.args.ruler c.requires.made)
 
 pub slice_bounds-remove_half-end : goal.slice_bounds-remove_half-end
 slice_bounds-remove_half-end c =
     let half : c.half_length-middle.result ≡ half_length (scale c.args.ruler).m = c.half_length-middle.ensures ∙ ap half_length c.bottom.ensures in
     let both : length c.args.directory.now ≡ c.half_length-middle.result + c.half_length-middle.result =
-    let s = c in
-    let x = index s.args.directory.now s.args.originals.now s.args.replicas.now in
-    two_parts _ _ _ (removing s.args.ruler s.requires.made x s.args.t s.requires.accepted s.requires.listed) half in
+    let x = index c.args.directory.now c.args.originals.now c.args.replicas.now in
+    two_parts _ _ _ (removing c.args.ruler c.requires.made x c.args.t c.requires.accepted c.requires.listed) half in
     omega (arith, both)
 
 pub remove_half-requires : goal.remove_half-requires
 remove_half-requires c =
     let half : c.half_length-middle.result ≡ half_length (scale c.args.ruler).m = c.half_length-middle.ensures ∙ ap half_length c.bottom.ensures in
-    let s = c in
-    let x = index s.args.directory.now s.args.originals.now s.args.replicas.now in
-    let e = removing s.args.ruler s.requires.made x s.args.t s.requires.accepted s.requires.listed in
-    record { made = s.requires.made; removing = (x, first_lent _ _ _ e half) }
+    let x = index c.args.directory.now c.args.originals.now c.args.replicas.now in
+    let e = removing c.args.ruler c.requires.made x c.args.t c.requires.accepted c.requires.listed in
+    record { made = c.requires.made; removing = (x, first_lent _ _ _ e half) }
 
 pub offset_bounds-directory-middle : goal.offset_bounds-directory-middle
 offset_bounds-directory-middle c =
     let half : c.half_length-middle.result ≡ half_length (scale c.args.ruler).m = c.half_length-middle.ensures ∙ ap half_length c.bottom.ensures in
     let both : length c.args.directory.now ≡ c.half_length-middle.result + c.half_length-middle.result =
-    let s = c in
-    let x = index s.args.directory.now s.args.originals.now s.args.replicas.now in
-    two_parts _ _ _ (removing s.args.ruler s.requires.made x s.args.t s.requires.accepted s.requires.listed) half in
+    let x = index c.args.directory.now c.args.originals.now c.args.replicas.now in
+    two_parts _ _ _ (removing c.args.ruler c.requires.made x c.args.t c.requires.accepted c.requires.listed) half in
     omega (arith, both)
 
 pub slice_bounds-remove_half-count-2 : goal.slice_bounds-remove_half-count-2
 slice_bounds-remove_half-count-2 c =
     let half : c.half_length-middle.result ≡ half_length (scale c.args.ruler).m = c.half_length-middle.ensures ∙ ap half_length c.bottom.ensures in
     let both : length c.args.directory.now ≡ c.half_length-middle.result + c.half_length-middle.result =
-    let s = c in
-    let x = index s.args.directory.now s.args.originals.now s.args.replicas.now in
-    two_parts _ _ _ (removing s.args.ruler s.requires.made x s.args.t s.requires.accepted s.requires.listed) half in
+    let x = index c.args.directory.now c.args.originals.now c.args.replicas.now in
+    two_parts _ _ _ (removing c.args.ruler c.requires.made x c.args.t c.requires.accepted c.requires.listed) half in
     omega (arith, both)
 
 pub slice_bounds-remove_half-start-2 : goal.slice_bounds-remove_half-start-2
 slice_bounds-remove_half-start-2 c =
     let half : c.half_length-middle.result ≡ half_length (scale c.args.ruler).m = c.half_length-middle.ensures ∙ ap half_length c.bottom.ensures in
     let both : length c.args.directory.now ≡ c.half_length-middle.result + c.half_length-middle.result =
-    let s = c in
-    let x = index s.args.directory.now s.args.originals.now s.args.replicas.now in
-    two_parts _ _ _ (removing s.args.ruler s.requires.made x s.args.t s.requires.accepted s.requires.listed) half in
+    let x = index c.args.directory.now c.args.originals.now c.args.replicas.now in
+    two_parts _ _ _ (removing c.args.ruler c.requires.made x c.args.t c.requires.accepted c.requires.listed) half in
     omega (arith, both)
 
 pub remove_half-requires-2 : goal.remove_half-requires-2
 remove_half-requires-2 c =
     let half : c.half_length-middle.result ≡ half_length (scale c.args.ruler).m = c.half_length-middle.ensures ∙ ap half_length c.bottom.ensures in
-    let s = c in
-    let x = index s.args.directory.now s.args.originals.now s.args.replicas.now in
-    let e = removing s.args.ruler s.requires.made x s.args.t s.requires.accepted s.requires.listed in record { made = s.requires.made; removing = (x, second_lent _ _ _ e half (c.remove_half.ensures x)) }
+    let x = index c.args.directory.now c.args.originals.now c.args.replicas.now in
+    let e = removing c.args.ruler c.requires.made x c.args.t c.requires.accepted c.requires.listed in record { made = c.requires.made; removing = (x, second_lent _ _ _ e half (c.remove_half.ensures x)) }
 
 pub returns : goal.returns
 returns c =
     let half : c.half_length-middle.result ≡ half_length (scale c.args.ruler).m = c.half_length-middle.ensures ∙ ap half_length c.bottom.ensures in
-    let cut = c in
-    let s = c in
-    let x = index s.args.directory.now s.args.originals.now s.args.replicas.now in
-    let e = removing s.args.ruler s.requires.made x s.args.t s.requires.accepted s.requires.listed in
+    let x = index c.args.directory.now c.args.originals.now c.args.replicas.now in
+    let e = removing c.args.ruler c.requires.made x c.args.t c.requires.accepted c.requires.listed in
     both_back _ _ _ e half (c.remove_half.ensures x)
     (c.remove_half-2.ensures x)

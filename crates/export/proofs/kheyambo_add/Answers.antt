@@ -6,6 +6,4 @@ use Rattle.export.proofs.kheyambo_add.Goals as goal
 pub returns : goal.returns
 unfolding add_said
 returns c =
-    let at-directory = c in
-    let named = at-directory in
-    left_so c.in_numbers.ensures (rw (named.numbers_named.ensures, named.of-t.ensures) at at-directory.add.ensures)
+    left_so c.in_numbers.ensures (rw (c.numbers_named.ensures, c.of-t.ensures) at c.add.ensures)

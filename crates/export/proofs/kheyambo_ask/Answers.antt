@@ -6,7 +6,5 @@ use Rattle.export.proofs.kheyambo_ask.Goals as goal
 pub returns : goal.returns
 unfolding ask_said
 returns c =
-    let asks = c in
-    let named = asks in
     told_so c.number_of.ensures c.detail_of.ensures
-    (rw (named.numbers_named.ensures, named.of-asking.ensures) at asks.ask-answered.ensures)
+    (rw (c.numbers_named.ensures, c.of-asking.ensures) at c.ask-answered.ensures)

@@ -9,9 +9,7 @@ use Rattle.export.proofs.kheyambo_build.Goals as goal
 pub returns : goal.returns
 unfolding build_said
 returns c =
-    let at-build = c in
-    let named = c in
     let a = c.args in
     let x = index a.directory.now a.originals.now a.replicas.now in
-    left_so c.in_numbers.ensures at-build.build.ensures
-    ∙ ap (λ (n : Numbers). build_said n a.table.now x) named.numbers_named.ensures
+    left_so c.in_numbers.ensures c.build.ensures
+    ∙ ap (λ (n : Numbers). build_said n a.table.now x) c.numbers_named.ensures

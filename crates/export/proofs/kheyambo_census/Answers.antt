@@ -17,10 +17,9 @@ rows_opened-rows-requires c =
 pub returns : goal.returns
 unfolding census_said check_said
 returns c =
-    let opens = c in
     let a = c.args in
     let x = index a.directory.now a.originals.now a.replicas.now in
     let n = numbers_named a.ruler in
-    let opened = rw opens.numbers_named.ensures at opens.open-opened.ensures in
+    let opened = rw c.numbers_named.ensures at c.open-opened.ensures in
     counted_so (c.in_numbers.ensures ∙ ap said_of (c.outcome_of.ensures ∙ ap outcome_of opened ∙ told n x))
     (c.rows_opened-rows.ensures ∙ rows-opened n x _ opened)

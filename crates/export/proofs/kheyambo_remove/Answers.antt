@@ -9,9 +9,7 @@ use Rattle.export.proofs.kheyambo_remove.Goals as goal
 pub returns : goal.returns
 unfolding remove_said
 returns c =
-    let at-remove = c in
-    let named = c in
     let a = c.args in
     let x = index a.directory.now a.originals.now a.replicas.now in
-    left_so c.in_numbers.ensures at-remove.remove.ensures
-    ∙ ap (λ (n : Numbers). remove_said n a.id x) named.numbers_named.ensures
+    left_so c.in_numbers.ensures c.remove.ensures
+    ∙ ap (λ (n : Numbers). remove_said n a.id x) c.numbers_named.ensures

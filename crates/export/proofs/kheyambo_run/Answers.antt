@@ -9,24 +9,21 @@ use Rattle.export.proofs.kheyambo_run.Goals as goal
 
 pub overflow_cast-result : goal.overflow_cast-result
 overflow_cast-result c =
-    let places = c in
     let a = c.args in
     let x = index a.directory.now a.originals.now a.replicas.now in
-    omega (arith, (run_small places.numbers_named.result a.level a.partition a.subdivision x places.run_place-place.ensures).0)
+    omega (arith, (run_small c.numbers_named.result a.level a.partition a.subdivision x c.run_place-place.ensures).0)
 
 pub overflow_cast-result-2 : goal.overflow_cast-result-2
 overflow_cast-result-2 c =
-    let places = c in
     let a = c.args in
     let x = index a.directory.now a.originals.now a.replicas.now in
-    omega (arith, (run_small places.numbers_named.result a.level a.partition a.subdivision x places.run_place-place.ensures).1)
+    omega (arith, (run_small c.numbers_named.result a.level a.partition a.subdivision x c.run_place-place.ensures).1)
 
 pub returns : goal.returns
 returns c =
-    let places = c in
     let a = c.args in
     let x = index a.directory.now a.originals.now a.replicas.now in
-    let named = places.numbers_named in
-    run-shown named.result a.level a.partition a.subdivision x places.run_place-place.ensures
+    let named = c.numbers_named in
+    run-shown named.result a.level a.partition a.subdivision x c.run_place-place.ensures
     c.number_of.ensures c.arena_of.ensures
     ∙ ap (λ (n : Numbers). run_said n a.level a.partition a.subdivision x) named.ensures

@@ -8,38 +8,32 @@ use native.Mathlib.Omega.{arith}
 use Rattle.feeding.proofs.feed.Goals as goal
 
 pub loop-i-init : goal.loop-i-init
-loop-i-init c = let g = c in (feeding_start _ _ _ _ _ g.requires.0, refl, refl, refl, refl)
+loop-i-init c = (feeding_start _ _ _ _ _ c.requires.0, refl, refl, refl, refl)
 
 pub overflow_add-end : goal.overflow_add-end
 overflow_add-end c =
-    let g = c in
     let w = c.loop-i.invariant.0 in
-    omega (arith, w.short, w.upto, g.requires.1.room)
+    omega (arith, w.short, w.upto, c.requires.1.room)
 
 pub slice_bounds-take_byte-end : goal.slice_bounds-take_byte-end
 slice_bounds-take_byte-end c =
-    let g = c in
     let w = c.loop-i.invariant.0 in
-    omega (arith, w.short, w.long, w.upto, g.requires.1.room)
+    omega (arith, w.short, w.long, w.upto, c.requires.1.room)
 
 pub overflow_add-to : goal.overflow_add-to
 overflow_add-to c =
-    let fed = c in
     let l = c.loop-i in
-    let g = c in
     let w = l.invariant.0 in
-    let short = byte_short l.out l.to _ refl fed.take_byte-fed.ensures in
-    omega (arith, c.loop-i-test.true, w.short, g.requires.1.room)
+    let short = byte_short l.out l.to _ refl c.take_byte-fed.ensures in
+    omega (arith, c.loop-i-test.true, w.short, c.requires.1.room)
 
 pub loop-i-preserved : goal.loop-i-preserved
 loop-i-preserved c =
-    let fed = c in
     let l = c.loop-i in
-    let g = c in
     let v = l.invariant in
     let more = c.loop-i-test.true in
-    let room : l.to + most_reply ≤ length l.out = omega (arith, more, v.0.short, v.0.long, g.requires.1.room) in (
-      feeding_turn (l.to + most_reply) v.0 more refl room fed.take_byte-fed.ensures,
+    let room : l.to + most_reply ≤ length l.out = omega (arith, more, v.0.short, v.0.long, c.requires.1.room) in (
+      feeding_turn (l.to + most_reply) v.0 more refl room c.take_byte-fed.ensures,
       c.directory-1.given ∙ v.1,
       c.originals-1.given ∙ v.2,
       c.replicas-1.given ∙ v.3,

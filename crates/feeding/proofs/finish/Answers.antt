@@ -5,16 +5,12 @@ use Rattle.feeding.proofs.finish.Goals as goal
 
 pub returns-then-standing-held : goal.returns-then-standing-held
 returns-then-standing-held c =
-    let done = c in
-    let test = done in
-    let g = c in
-    let a = g.args in
-    end_line a.standing (index a.directory.now a.originals.now a.replicas.now) a.answers.now g.requires.0
-    test.if-standing-held.true done.line_done.ensures
+    let a = c.args in
+    end_line a.standing (index a.directory.now a.originals.now a.replicas.now) a.answers.now c.requires.0
+    c.if-standing-held.true c.line_done.ensures
 
 pub returns : goal.returns
 returns c =
-    let g = c in
-    let a = g.args in
-    end_silent a.standing (index a.directory.now a.originals.now a.replicas.now) a.answers.now g.requires.0
+    let a = c.args in
+    end_silent a.standing (index a.directory.now a.originals.now a.replicas.now) a.answers.now c.requires.0
     c.if-standing-held.false (c.silent.ensures _ _ _)

@@ -4,10 +4,8 @@ use native.Mathlib.Omega.{arith}
 use Rattle.feeding.proofs.line_done.Goals as goal
 
 pub slice_bounds-turn-end : goal.slice_bounds-turn-end
-slice_bounds-turn-end c = let g = c in omega (arith, g.requires.0.within, line-room g.requires.0)
+slice_bounds-turn-end c = omega (arith, c.requires.0.within, line-room c.requires.0)
 
 pub returns : goal.returns
 returns c =
-    let turned = c in
-    let g = c in
-    line-left g.args.standing _ _ g.requires.0 turned.turn-turned.ensures
+    line-left c.args.standing _ _ c.requires.0 c.turn-turned.ensures

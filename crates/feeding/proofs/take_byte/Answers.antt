@@ -12,15 +12,12 @@ returns-then-not-standing c =
 
 pub returns-then-byte-eq-NEWLINE : goal.returns-then-byte-eq-NEWLINE
 returns-then-byte-eq-NEWLINE c =
-    let done = c in
-    let test = done in
     let a = c.args in
     byte_ends a.standing (index a.directory.now a.originals.now a.replicas.now) a.answers.now a.byte
-    (not-false _ test.if-not-standing.false) test.if-byte-eq-NEWLINE.true done.line_done.ensures
+    (not-false _ c.if-not-standing.false) c.if-byte-eq-NEWLINE.true c.line_done.ensures
 
 pub returns : goal.returns
 returns c =
-    let test = c in
     let a = c.args in
     byte_stays a.standing (index a.directory.now a.originals.now a.replicas.now) a.answers.now a.byte
-    (not-false _ test.if-not-standing.false) test.if-byte-eq-NEWLINE.false (c.keep_byte.ensures.1 _ _) (c.silent-2.ensures _ _ _)
+    (not-false _ c.if-not-standing.false) c.if-byte-eq-NEWLINE.false (c.keep_byte.ensures.1 _ _) (c.silent-2.ensures _ _ _)

@@ -8,15 +8,13 @@ entries_of-few-requires c = some_words _ c.args.o.now c.requires.halves_long.0
 
 pub slots_ok-firsts-requires : goal.slots_ok-firsts-requires
 slots_ok-firsts-requires c =
-    let g = c in
-    let h = of_halves g.args.o.now g.args.originals.now g.args.r.now g.args.replicas.now g.requires.halves_passed in
-    record { made = g.requires.made; dir_len = g.requires.halves_long.0; half_passed = h.0 }
+    let h = of_halves c.args.o.now c.args.originals.now c.args.r.now c.args.replicas.now c.requires.halves_passed in
+    record { made = c.requires.made; dir_len = c.requires.halves_long.0; half_passed = h.0 }
 
 pub slots_ok-copies-requires : goal.slots_ok-copies-requires
 slots_ok-copies-requires c =
-    let g = c in
-    let h = of_halves g.args.o.now g.args.originals.now g.args.r.now g.args.replicas.now g.requires.halves_passed in
-    record { made = g.requires.made; dir_len = g.requires.halves_long.1; half_passed = h.1 }
+    let h = of_halves c.args.o.now c.args.originals.now c.args.r.now c.args.replicas.now c.requires.halves_passed in
+    record { made = c.requires.made; dir_len = c.requires.halves_long.1; half_passed = h.1 }
 
 pub returns : goal.returns
 unfolding all_slots_ok

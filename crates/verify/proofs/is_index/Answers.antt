@@ -11,7 +11,7 @@ use native.Mathlib.Omega.{arith}
 use Rattle.verify.proofs.is_index.Goals as goal
 
 pub half_length-half-requires : goal.half_length-half-requires
-half_length-half-requires c = let g = c in rw c.bottom.ensures (deep-ruler g.args.ruler g.requires.made)
+half_length-half-requires c = rw c.bottom.ensures (deep-ruler c.args.ruler c.requires.made)
 
 pub slice_bounds-locally-end : goal.slice_bounds-locally-end
 slice_bounds-locally-end c =
@@ -40,13 +40,11 @@ slice_bounds-locally-start-2 c =
 pub locally-requires : goal.locally-requires
 locally-requires c =
     let half : c.half_length-half.result ≡ half_length (scale c.args.ruler).m = c.half_length-half.ensures ∙ ap half_length c.bottom.ensures in
-    let g = c in
-    record { made = g.requires.made; halves_long = halves_long g.args.ruler g.args.directory.now g.requires.made g.requires.directory_len half }
+    record { made = c.requires.made; halves_long = halves_long c.args.ruler c.args.directory.now c.requires.made c.requires.directory_len half }
 
 pub returns : goal.returns
 returns c =
     let half : c.half_length-half.result ≡ half_length (scale c.args.ruler).m = c.half_length-half.ensures ∙ ap half_length c.bottom.ensures in
-    let g = c in
-    let a = g.args in
-    c.locally.ensures ∙ sym (halves-index a.ruler a.directory.now g.requires.made g.requires.directory_len half
+    let a = c.args in
+    c.locally.ensures ∙ sym (halves-index a.ruler a.directory.now c.requires.made c.requires.directory_len half
     a.originals.now a.replicas.now)

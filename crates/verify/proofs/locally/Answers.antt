@@ -6,8 +6,7 @@ use Rattle.verify.proofs.locally.Goals as goal
 
 pub halves_ok-requires : goal.halves_ok-requires
 halves_ok-requires c =
-    let g = c in
-    (some_words _ g.args.o.now g.requires.halves_long.0, some_words _ g.args.r.now g.requires.halves_long.1)
+    (some_words _ c.args.o.now c.requires.halves_long.0, some_words _ c.args.r.now c.requires.halves_long.1)
 
 pub returns-then-not-halves_ok : goal.returns-then-not-halves_ok
 unfolding locally
@@ -17,8 +16,7 @@ returns-then-not-halves_ok c =
 
 pub all_slots_ok-requires : goal.all_slots_ok-requires
 all_slots_ok-requires c =
-    let g = c in
-    record { made = g.requires.made; halves_long = g.requires.halves_long; halves_passed = sym c.halves_ok.ensures ∙ c.if-not-halves_ok.false }
+    record { made = c.requires.made; halves_long = c.requires.halves_long; halves_passed = sym c.halves_ok.ensures ∙ c.if-not-halves_ok.false }
 
 pub returns-then-not-all_slots_ok : goal.returns-then-not-all_slots_ok
 unfolding locally
@@ -29,11 +27,10 @@ returns-then-not-all_slots_ok c =
 
 pub trips_ok-requires : goal.trips_ok-requires
 trips_ok-requires c =
-    let g = c in
     let halves = sym c.halves_ok.ensures ∙ c.if-not-halves_ok.false in
     record {
-      made = g.requires.made;
-      halves_long = g.requires.halves_long;
+      made = c.requires.made;
+      halves_long = c.requires.halves_long;
       halves_passed = halves;
       slots_passed = sym c.all_slots_ok.ensures ∙ c.if-not-all_slots_ok.false;
     }

@@ -7,8 +7,7 @@ use Rattle.view.proofs.rows_opened.Goals as goal
 
 pub level_rows-requires : goal.level_rows-requires
 level_rows-requires c =
-    let g = c in
-    rw c.bottom.ensures (g.requires.halves c.in-Index.ruler c.in-Index.is)
+    rw c.bottom.ensures (c.requires.halves c.in-Index.ruler c.in-Index.is)
 
 pub returns-in-Index : goal.returns-in-Index
 unfolding rows_opened

@@ -10,17 +10,15 @@ returns-in_default c = rw (sym c.relationship_of.ensures ∙ c.in_default.is)
 pub returns-in-Refused : goal.returns-in-Refused
 unfolding judged_of judged_as
 returns-in-Refused c =
-    let after-code = c in
     rw (
-      sym after-code.relationship_of.ensures ∙ after-code.in-As.is,
+      sym c.relationship_of.ensures ∙ c.in-As.is,
       sym c.window_outcome-when.ensures ∙ c.in-Refused.is,
     )
 
 pub returns : goal.returns
 unfolding judged_of judged_as
 returns c =
-    let after-code = c in
     rw (
-      sym after-code.relationship_of.ensures ∙ after-code.in-As.is,
+      sym c.relationship_of.ensures ∙ c.in-As.is,
       sym c.window_outcome-when.ensures ∙ c.in_default-when.is,
     )

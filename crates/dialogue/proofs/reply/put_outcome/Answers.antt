@@ -29,14 +29,11 @@ returns-in-Accepted c = rw c.in-Accepted.is
 pub returns-in-Refused : goal.returns-in-Refused
 unfolding as_line outcome_bytes refused_bytes
 returns-in-Refused c =
-    let at-reply3 = c in
-    let at-put2 = at-reply3 in
-    let at-outcome = at-put2 in
-    let r = at-reply3.refusal_number in
-    let three = three_puts at-outcome.args.reply.now (refused_bytes ++ (space ∷ [])) (decimal r.result) (newline ∷ [])
-    at-put2.put-word.ensures at-reply3.put_number-number.ensures c.put-in-Refused.ensures in
+    let r = c.refusal_number in
+    let three = three_puts c.args.reply.now (refused_bytes ++ (space ∷ [])) (decimal r.result) (newline ∷ [])
+    c.put-word.ensures c.put_number-number.ensures c.put-in-Refused.ensures in
     let few = ten_digits r.result (omega arith) in
-    let w = at-put2.put-word.ensures in
-    let n = at-reply3.put_number-number.ensures in
+    let w = c.put-word.ensures in
+    let n = c.put_number-number.ensures in
     let whole = rw r.ensures at three in
-    rw at-outcome.in-Refused.is (whole.0, whole.1, omega (arith, w.0, n.0, c.put-in-Refused.ensures.0))
+    rw c.in-Refused.is (whole.0, whole.1, omega (arith, w.0, n.0, c.put-in-Refused.ensures.0))

@@ -15,9 +15,6 @@ returns-then-not-desk c =
 pub returns : goal.returns
 unfolding turn_of
 returns c =
-    let at-replicas = c in
-    let at-add-turn = at-replicas in
-    let at-else1 = at-add-turn in
-    λ l. done_then at-else1.args.desk.started
-    _ _ (not-false _ at-else1.if-not-desk.false) (rw at-add-turn.of-t.ensures at
-    (at-add-turn.add_turn.ensures l))
+    λ l. done_then c.args.desk.started
+    _ _ (not-false _ c.if-not-desk.false) (rw c.of-t.ensures at
+    (c.add_turn.ensures l))

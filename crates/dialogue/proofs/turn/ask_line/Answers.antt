@@ -14,7 +14,7 @@ returns-then-not-desk c =
 
 pub returns : goal.returns
 unfolding turn_of
-returns c = let at-ask-turn = c in let at_body = at-ask-turn in done_then
-    at_body.args.desk.started
-    _ _ (not-false _ at-ask-turn.if-not-desk.false)
-    (rw at-ask-turn.of-asking.ensures at at-ask-turn.ask_turn.ensures)
+returns c = done_then
+    c.args.desk.started
+    _ _ (not-false _ c.if-not-desk.false)
+    (rw c.of-asking.ensures at c.ask_turn.ensures)

@@ -8,8 +8,8 @@ use native.Mathlib.Omega.{arith}
 use Rattle.dialogue.proofs.turn.ask_turn.Goals as goal
 
 pub slice_bounds-ask-end : goal.slice_bounds-ask-end
-slice_bounds-ask-end c = let g = c in
-    in_front g.args.desk.numbers g.args.directory.now c.directory_words-n.ensures g.requires.0 g.requires.1
+slice_bounds-ask-end c =
+    in_front c.args.desk.numbers c.args.directory.now c.directory_words-n.ensures c.requires.0 c.requires.1
 
 pub slice_bounds-put_answer-end : goal.slice_bounds-put_answer-end
 slice_bounds-put_answer-end c =

@@ -6,17 +6,16 @@ use Rattle.ruler.specs.Ruler.{scale_of}
 use Rattle.dialogue.proofs.turn.remove_turn.Goals as goal
 
 pub slice_bounds-remove-end : goal.slice_bounds-remove-end
-slice_bounds-remove-end c = let g = c in
-    in_front g.args.desk.numbers g.args.directory.now c.directory_words-n.ensures g.requires.0 g.requires.1
+slice_bounds-remove-end c =
+    in_front c.args.desk.numbers c.args.directory.now c.directory_words-n.ensures c.requires.0 c.requires.1
 
 pub returns : goal.returns
 returns c =
-    let g = c in
-    let a = g.args in
+    let a = c.args in
     let n = c.directory_words-n in
     let made = c.remove-outcome in
     let call : Index → After = λ x. remove_of (scale_of a.desk.numbers) x a.id in
     λ l. rw c.goes_on.ensures (edited_done a.desk.numbers a.directory.now a.originals.now a.replicas.now n.result
-    n.ensures g.requires.0 g.requires.1
+    n.ensures c.requires.0 c.requires.1
     a.desk l call made.ensures c.directory-1.given.0
     c.put_outcome-written.ensures)

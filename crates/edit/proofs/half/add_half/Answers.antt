@@ -13,13 +13,11 @@ slice_bounds-add_to_slots-end c = let g = c.trip_slots-n in omega (
 
 pub add_to_slots-requires : goal.add_to_slots-requires
 add_to_slots-requires c =
-    let s = c in
     let g = c.trip_slots-n in
-    (scale s.args.ruler, s.requires.adding.0, s.requires.adding.1, over-front g.result _ _ _ g.ensures.0 g.ensures.1)
+    (scale c.args.ruler, c.requires.adding.0, c.requires.adding.1, over-front g.result _ _ _ g.ensures.0 g.ensures.1)
 
 pub returns : goal.returns
 returns c =
-    let s = c in
     let g = c.trip_slots-n in
-    λ x a. c.add_to_slots.ensures (scale s.args.ruler) x a (over-front g.result _ _ _ g.ensures.0
+    λ x a. c.add_to_slots.ensures (scale c.args.ruler) x a (over-front g.result _ _ _ g.ensures.0
     g.ensures.1)

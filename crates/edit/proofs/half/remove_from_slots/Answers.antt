@@ -18,13 +18,12 @@ overflow_cast-spot c = omega (arith, c.type_inv.spots c.loop-j.j)
 
 pub remove_from_slot-requires : goal.remove_from_slot-requires
 remove_from_slot-requires c =
-    let s = c in
-    let g = s.args in
+    let g = c.args in
     let l = c.loop-j in
-    let a = s.requires.2 in (
-      shrunk_slots s.requires.0 g.half s.requires.1 g.t g.dir.now g.arena.now a l.j,
-      shrunk_there s.requires.0 g.half s.requires.1 g.t g.dir.now g.arena.now a g.spots.now s.requires.3 l.dir l.arena
-          l.j (l.invariant.3 s.requires.0 s.requires.1 a s.requires.3) (omega arith),
+    let a = c.requires.2 in (
+      shrunk_slots c.requires.0 g.half c.requires.1 g.t g.dir.now g.arena.now a l.j,
+      shrunk_there c.requires.0 g.half c.requires.1 g.t g.dir.now g.arena.now a g.spots.now c.requires.3 l.dir l.arena
+          l.j (l.invariant.3 c.requires.0 c.requires.1 a c.requires.3) (omega arith),
     )
 
 pub loop-j-preserved : goal.loop-j-preserved

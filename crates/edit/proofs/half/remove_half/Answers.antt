@@ -13,13 +13,11 @@ slice_bounds-remove_from_slots-end c = let g = c.trip_slots-n in omega (
 
 pub remove_from_slots-requires : goal.remove_from_slots-requires
 remove_from_slots-requires c =
-    let s = c in
     let g = c.trip_slots-n in
-    (scale s.args.ruler, s.requires.removing.0, s.requires.removing.1, over-front g.result _ _ _ g.ensures.0 g.ensures.1)
+    (scale c.args.ruler, c.requires.removing.0, c.requires.removing.1, over-front g.result _ _ _ g.ensures.0 g.ensures.1)
 
 pub returns : goal.returns
 returns c =
-    let s = c in
     let g = c.trip_slots-n in
-    λ x a. c.remove_from_slots.ensures (scale s.args.ruler) x a (over-front g.result _ _ _
+    λ x a. c.remove_from_slots.ensures (scale c.args.ruler) x a (over-front g.result _ _ _
     g.ensures.0 g.ensures.1)

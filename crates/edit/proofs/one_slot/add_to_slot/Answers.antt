@@ -3,15 +3,13 @@ use Rattle.edit.proofs.OneSlot.{room_at}
 use Rattle.edit.proofs.one_slot.add_to_slot.Goals as goal
 
 pub place_in-pos-requires : goal.place_in-pos-requires
-place_in-pos-requires c = let s = c in (s.requires.0, s.requires.1.orderly)
+place_in-pos-requires c = (c.requires.0, c.requires.1.orderly)
 
 pub insert-requires : goal.insert-requires
 insert-requires c =
-    let at_body = c in
-    let s = at_body in
-    let a = s.args in
-    let e = c.place_in-pos.ensures s.requires.0 s.requires.1.orderly in
-    (s.requires.0, rw e (room_at a.dir.now a.arena.now s.requires.0 a.half a.slot a.t s.requires.1))
+    let a = c.args in
+    let e = c.place_in-pos.ensures c.requires.0 c.requires.1.orderly in
+    (c.requires.0, rw e (room_at a.dir.now a.arena.now c.requires.0 a.half a.slot a.t c.requires.1))
 
 pub returns : goal.returns
 returns c = λ ls v.

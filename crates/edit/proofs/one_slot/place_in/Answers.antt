@@ -17,8 +17,7 @@ part_between-requires c =
 
 pub find_place-requires : goal.find_place-requires
 find_place-requires c =
-    let s = c in
-    part_ordered s.args.dir.now s.args.arena.now s.requires.0 s.args.half s.args.slot s.requires.1
+    part_ordered c.args.dir.now c.args.arena.now c.requires.0 c.args.half c.args.slot c.requires.1
     c.part_between.ensures c.subdivision_of.result c.subdivision_of.ensures
 
 pub returns : goal.returns

@@ -27,8 +27,7 @@ unfolding directory_length
 trips_of-trips-requires c =
     let words : Index = index c.args.directory.now c.args.originals.now c.args.replicas.now in
     let in-index : Shown (scale c.args.ruler) words = shown _ _ (checked _ _ c.requires.checked) (deep-ruler c.args.ruler c.requires.made) in
-    let g = c in
-    rw c.bottom.ensures (deep-ruler g.args.ruler g.requires.made, omega (arith, in-index.size))
+    rw c.bottom.ensures (deep-ruler c.args.ruler c.requires.made, omega (arith, in-index.size))
 
 pub entries_of-copies-requires : goal.entries_of-copies-requires
 unfolding directory_length
@@ -44,17 +43,15 @@ returns-then-trips-ge-MOST_TRIPS c =
     let trips : List Trip = table_of (scale c.args.ruler) words in
     let in-index : Shown (scale c.args.ruler) words = shown _ _ (checked _ _ c.requires.checked) (deep-ruler c.args.ruler c.requires.made) in
     let counted : (c.trips_of-trips.result ≡ length trips) × (c.entries_of-copies.result ≡ length (entries (scale c.args.ruler) Replicas trips)) =
-    let g = c in
     let w = in-index in (
-      c.trips_of-trips.ensures ∙ ap (λ (m : ℕ). get_or g.args.directory.now (2 * partitions m) 0) c.bottom.ensures
+      c.trips_of-trips.ensures ∙ ap (λ (m : ℕ). get_or c.args.directory.now (2 * partitions m) 0) c.bottom.ensures
           ∙ w.trips,
       c.entries_of-copies.ensures ∙ w.copies,
     ) in
-    let g = c in
     let w = in-index in
     let full : leb most_trips (length trips) ≡ true = le-leb most_trips (length trips)
     (omega (arith, counted.0, c.if-trips-ge-MOST_TRIPS.true)) in
-    c.refused.ensures ∙ sym (add-full (scale g.args.ruler) words g.args.t g.requires.checked w true full)
+    c.refused.ensures ∙ sym (add-full (scale c.args.ruler) words c.args.t c.requires.checked w true full)
 
 pub slice_bounds-trip_outcome-end : goal.slice_bounds-trip_outcome-end
 slice_bounds-trip_outcome-end c =
@@ -62,9 +59,8 @@ slice_bounds-trip_outcome-end c =
     let in-index : Shown (scale c.args.ruler) words = shown _ _ (checked _ _ c.requires.checked) (deep-ruler c.args.ruler c.requires.made) in
     let trips : List Trip = table_of (scale c.args.ruler) words in
     let counted : (c.trips_of-trips.result ≡ length trips) × (c.entries_of-copies.result ≡ length (entries (scale c.args.ruler) Replicas trips)) =
-    let g = c in
     let w = in-index in (
-      c.trips_of-trips.ensures ∙ ap (λ (m : ℕ). get_or g.args.directory.now (2 * partitions m) 0) c.bottom.ensures
+      c.trips_of-trips.ensures ∙ ap (λ (m : ℕ). get_or c.args.directory.now (2 * partitions m) 0) c.bottom.ensures
           ∙ w.trips,
       c.entries_of-copies.ensures ∙ w.copies,
     ) in
@@ -77,24 +73,20 @@ returns-then-not-is_accepted c =
     let in-index : Shown (scale c.args.ruler) words = shown _ _ (checked _ _ c.requires.checked) (deep-ruler c.args.ruler c.requires.made) in
     let trips : List Trip = table_of (scale c.args.ruler) words in
     let counted : (c.trips_of-trips.result ≡ length trips) × (c.entries_of-copies.result ≡ length (entries (scale c.args.ruler) Replicas trips)) =
-    let g = c in
     let w = in-index in (
-      c.trips_of-trips.ensures ∙ ap (λ (m : ℕ). get_or g.args.directory.now (2 * partitions m) 0) c.bottom.ensures
+      c.trips_of-trips.ensures ∙ ap (λ (m : ℕ). get_or c.args.directory.now (2 * partitions m) 0) c.bottom.ensures
           ∙ w.trips,
       c.entries_of-copies.ensures ∙ w.copies,
     ) in
     let few : leb most_trips (length trips) ≡ false =
-    let g = c in
     lt-leb most_trips (length trips) (omega (arith, counted.0, c.if-trips-ge-MOST_TRIPS.false)) in
     let row_is : c.trip_outcome-row.result ≡ row_tests (scale c.args.ruler) trips c.args.t 0 Accepted =
-    let g = c in
     let w = in-index in
     let read = ap (λ (k : ℕ). rows (take (entry_words * k - 0) words.originals)) counted.0 ∙ w.listed in
-    c.trip_outcome-row.ensures ∙ ap (λ (l : List Trip). row_tests (scale g.args.ruler) l g.args.t 0 Accepted) read in
-    let g = c in
+    c.trip_outcome-row.ensures ∙ ap (λ (l : List Trip). row_tests (scale c.args.ruler) l c.args.t 0 Accepted) read in
     let is = row_is in
     let not_taken = sym (ap is_accepted is) ∙ sym c.is_accepted.ensures ∙ c.if-not-is_accepted.true in
-    is ∙ sym (add_row (scale g.args.ruler) words g.args.t g.requires.checked in-index few not_taken)
+    is ∙ sym (add_row (scale c.args.ruler) words c.args.t c.requires.checked in-index few not_taken)
 
 pub lacks_room-requires : goal.lacks_room-requires
 unfolding refuse
@@ -103,20 +95,17 @@ lacks_room-requires c =
     let in-index : Shown (scale c.args.ruler) words = shown _ _ (checked _ _ c.requires.checked) (deep-ruler c.args.ruler c.requires.made) in
     let trips : List Trip = table_of (scale c.args.ruler) words in
     let counted : (c.trips_of-trips.result ≡ length trips) × (c.entries_of-copies.result ≡ length (entries (scale c.args.ruler) Replicas trips)) =
-    let g = c in
     let w = in-index in (
-      c.trips_of-trips.ensures ∙ ap (λ (m : ℕ). get_or g.args.directory.now (2 * partitions m) 0) c.bottom.ensures
+      c.trips_of-trips.ensures ∙ ap (λ (m : ℕ). get_or c.args.directory.now (2 * partitions m) 0) c.bottom.ensures
           ∙ w.trips,
       c.entries_of-copies.ensures ∙ w.copies,
     ) in
     let row_is : c.trip_outcome-row.result ≡ row_tests (scale c.args.ruler) trips c.args.t 0 Accepted =
-    let g = c in
     let w = in-index in
     let read = ap (λ (k : ℕ). rows (take (entry_words * k - 0) words.originals)) counted.0 ∙ w.listed in
-    c.trip_outcome-row.ensures ∙ ap (λ (l : List Trip). row_tests (scale g.args.ruler) l g.args.t 0 Accepted) read in
+    c.trip_outcome-row.ensures ∙ ap (λ (l : List Trip). row_tests (scale c.args.ruler) l c.args.t 0 Accepted) read in
     let row_ok : RowOk (scale c.args.ruler) trips c.args.t = row_taken _ _ _ _ row_is (sym c.is_accepted.ensures ∙ c.if-not-is_accepted.false) in
-    let g = c in
-    record { made = g.requires.made; fits = (row_ok.fits, omega (arith, in-index, counted.0)) }
+    record { made = c.requires.made; fits = (row_ok.fits, omega (arith, in-index, counted.0)) }
 
 pub returns-then-lacks_room : goal.returns-then-lacks_room
 unfolding refuse
@@ -125,25 +114,21 @@ returns-then-lacks_room c =
     let in-index : Shown (scale c.args.ruler) words = shown _ _ (checked _ _ c.requires.checked) (deep-ruler c.args.ruler c.requires.made) in
     let trips : List Trip = table_of (scale c.args.ruler) words in
     let counted : (c.trips_of-trips.result ≡ length trips) × (c.entries_of-copies.result ≡ length (entries (scale c.args.ruler) Replicas trips)) =
-    let g = c in
     let w = in-index in (
-      c.trips_of-trips.ensures ∙ ap (λ (m : ℕ). get_or g.args.directory.now (2 * partitions m) 0) c.bottom.ensures
+      c.trips_of-trips.ensures ∙ ap (λ (m : ℕ). get_or c.args.directory.now (2 * partitions m) 0) c.bottom.ensures
           ∙ w.trips,
       c.entries_of-copies.ensures ∙ w.copies,
     ) in
     let few : leb most_trips (length trips) ≡ false =
-    let g = c in
     lt-leb most_trips (length trips) (omega (arith, counted.0, c.if-trips-ge-MOST_TRIPS.false)) in
     let row_is : c.trip_outcome-row.result ≡ row_tests (scale c.args.ruler) trips c.args.t 0 Accepted =
-    let g = c in
     let w = in-index in
     let read = ap (λ (k : ℕ). rows (take (entry_words * k - 0) words.originals)) counted.0 ∙ w.listed in
-    c.trip_outcome-row.ensures ∙ ap (λ (l : List Trip). row_tests (scale g.args.ruler) l g.args.t 0 Accepted) read in
+    c.trip_outcome-row.ensures ∙ ap (λ (l : List Trip). row_tests (scale c.args.ruler) l c.args.t 0 Accepted) read in
     let row_ok : RowOk (scale c.args.ruler) trips c.args.t = row_taken _ _ _ _ row_is (sym c.is_accepted.ensures ∙ c.if-not-is_accepted.false) in
-    let g = c in
     let row = row_ok in
-    let last = last_cell_lem g.args.ruler g.requires.made g.args.t row.fits in
-    c.refused-then-lacks_room.ensures ∙ sym (add-room (scale g.args.ruler) words g.args.t g.requires.checked in-index
+    let last = last_cell_lem c.args.ruler c.requires.made c.args.t row.fits in
+    c.refused-then-lacks_room.ensures ∙ sym (add-room (scale c.args.ruler) words c.args.t c.requires.checked in-index
     few row last counted true _
     (sym c.lacks_room.ensures ∙ c.if-lacks_room.true) refl)
 
@@ -154,20 +139,17 @@ lacks_room-requires-2 c =
     let in-index : Shown (scale c.args.ruler) words = shown _ _ (checked _ _ c.requires.checked) (deep-ruler c.args.ruler c.requires.made) in
     let trips : List Trip = table_of (scale c.args.ruler) words in
     let counted : (c.trips_of-trips.result ≡ length trips) × (c.entries_of-copies.result ≡ length (entries (scale c.args.ruler) Replicas trips)) =
-    let g = c in
     let w = in-index in (
-      c.trips_of-trips.ensures ∙ ap (λ (m : ℕ). get_or g.args.directory.now (2 * partitions m) 0) c.bottom.ensures
+      c.trips_of-trips.ensures ∙ ap (λ (m : ℕ). get_or c.args.directory.now (2 * partitions m) 0) c.bottom.ensures
           ∙ w.trips,
       c.entries_of-copies.ensures ∙ w.copies,
     ) in
     let row_is : c.trip_outcome-row.result ≡ row_tests (scale c.args.ruler) trips c.args.t 0 Accepted =
-    let g = c in
     let w = in-index in
     let read = ap (λ (k : ℕ). rows (take (entry_words * k - 0) words.originals)) counted.0 ∙ w.listed in
-    c.trip_outcome-row.ensures ∙ ap (λ (l : List Trip). row_tests (scale g.args.ruler) l g.args.t 0 Accepted) read in
+    c.trip_outcome-row.ensures ∙ ap (λ (l : List Trip). row_tests (scale c.args.ruler) l c.args.t 0 Accepted) read in
     let row_ok : RowOk (scale c.args.ruler) trips c.args.t = row_taken _ _ _ _ row_is (sym c.is_accepted.ensures ∙ c.if-not-is_accepted.false) in
-    let g = c in
-    record { made = g.requires.made; fits = (row_ok.fits, omega (arith, in-index, counted.1)) }
+    record { made = c.requires.made; fits = (row_ok.fits, omega (arith, in-index, counted.1)) }
 
 pub returns-then-lacks_room-2 : goal.returns-then-lacks_room-2
 unfolding refuse
@@ -176,25 +158,21 @@ returns-then-lacks_room-2 c =
     let in-index : Shown (scale c.args.ruler) words = shown _ _ (checked _ _ c.requires.checked) (deep-ruler c.args.ruler c.requires.made) in
     let trips : List Trip = table_of (scale c.args.ruler) words in
     let counted : (c.trips_of-trips.result ≡ length trips) × (c.entries_of-copies.result ≡ length (entries (scale c.args.ruler) Replicas trips)) =
-    let g = c in
     let w = in-index in (
-      c.trips_of-trips.ensures ∙ ap (λ (m : ℕ). get_or g.args.directory.now (2 * partitions m) 0) c.bottom.ensures
+      c.trips_of-trips.ensures ∙ ap (λ (m : ℕ). get_or c.args.directory.now (2 * partitions m) 0) c.bottom.ensures
           ∙ w.trips,
       c.entries_of-copies.ensures ∙ w.copies,
     ) in
     let few : leb most_trips (length trips) ≡ false =
-    let g = c in
     lt-leb most_trips (length trips) (omega (arith, counted.0, c.if-trips-ge-MOST_TRIPS.false)) in
     let row_is : c.trip_outcome-row.result ≡ row_tests (scale c.args.ruler) trips c.args.t 0 Accepted =
-    let g = c in
     let w = in-index in
     let read = ap (λ (k : ℕ). rows (take (entry_words * k - 0) words.originals)) counted.0 ∙ w.listed in
-    c.trip_outcome-row.ensures ∙ ap (λ (l : List Trip). row_tests (scale g.args.ruler) l g.args.t 0 Accepted) read in
+    c.trip_outcome-row.ensures ∙ ap (λ (l : List Trip). row_tests (scale c.args.ruler) l c.args.t 0 Accepted) read in
     let row_ok : RowOk (scale c.args.ruler) trips c.args.t = row_taken _ _ _ _ row_is (sym c.is_accepted.ensures ∙ c.if-not-is_accepted.false) in
-    let g = c in
     let row = row_ok in
-    let last = last_cell_lem g.args.ruler g.requires.made g.args.t row.fits in
-    c.refused-then-lacks_room-2.ensures ∙ sym (add-room (scale g.args.ruler) words g.args.t g.requires.checked in-index
+    let last = last_cell_lem c.args.ruler c.requires.made c.args.t row.fits in
+    c.refused-then-lacks_room-2.ensures ∙ sym (add-room (scale c.args.ruler) words c.args.t c.requires.checked in-index
     few row last
     counted false true
     (sym c.lacks_room.ensures ∙ c.if-lacks_room.false)
@@ -207,25 +185,21 @@ returns c =
     let in-index : Shown (scale c.args.ruler) words = shown _ _ (checked _ _ c.requires.checked) (deep-ruler c.args.ruler c.requires.made) in
     let trips : List Trip = table_of (scale c.args.ruler) words in
     let counted : (c.trips_of-trips.result ≡ length trips) × (c.entries_of-copies.result ≡ length (entries (scale c.args.ruler) Replicas trips)) =
-    let g = c in
     let w = in-index in (
-      c.trips_of-trips.ensures ∙ ap (λ (m : ℕ). get_or g.args.directory.now (2 * partitions m) 0) c.bottom.ensures
+      c.trips_of-trips.ensures ∙ ap (λ (m : ℕ). get_or c.args.directory.now (2 * partitions m) 0) c.bottom.ensures
           ∙ w.trips,
       c.entries_of-copies.ensures ∙ w.copies,
     ) in
     let few : leb most_trips (length trips) ≡ false =
-    let g = c in
     lt-leb most_trips (length trips) (omega (arith, counted.0, c.if-trips-ge-MOST_TRIPS.false)) in
     let row_is : c.trip_outcome-row.result ≡ row_tests (scale c.args.ruler) trips c.args.t 0 Accepted =
-    let g = c in
     let w = in-index in
     let read = ap (λ (k : ℕ). rows (take (entry_words * k - 0) words.originals)) counted.0 ∙ w.listed in
-    c.trip_outcome-row.ensures ∙ ap (λ (l : List Trip). row_tests (scale g.args.ruler) l g.args.t 0 Accepted) read in
+    c.trip_outcome-row.ensures ∙ ap (λ (l : List Trip). row_tests (scale c.args.ruler) l c.args.t 0 Accepted) read in
     let row_ok : RowOk (scale c.args.ruler) trips c.args.t = row_taken _ _ _ _ row_is (sym c.is_accepted.ensures ∙ c.if-not-is_accepted.false) in
-    let g = c in
     let row = row_ok in
-    let last = last_cell_lem g.args.ruler g.requires.made g.args.t row.fits in
-    sym (add-room (scale g.args.ruler) words g.args.t g.requires.checked in-index
+    let last = last_cell_lem c.args.ruler c.requires.made c.args.t row.fits in
+    sym (add-room (scale c.args.ruler) words c.args.t c.requires.checked in-index
     few row last
     counted false false
     (sym c.lacks_room.ensures ∙ c.if-lacks_room.false) (sym c.lacks_room-2.ensures ∙ c.if-lacks_room-2.false))

@@ -12,8 +12,8 @@ pub bottom_cell-l-requires : goal.bottom_cell-l-requires
 bottom_cell-l-requires c = record { made = c.requires.made; on_ruler = c.requires.on_ruler.ends }
 
 pub power-requires : goal.power-requires
-power-requires c = let s = c in
-    omega (arith, c.bottom-m.ensures, deep-ruler s.args.ruler s.requires.made)
+power-requires c =
+    omega (arith, c.bottom-m.ensures, deep-ruler c.args.ruler c.requires.made)
 
 pub overflow_sub-power : goal.overflow_sub-power
 overflow_sub-power c = omega (arith, c.power.ensures, pow_pos c.bottom-m.result)

@@ -7,9 +7,8 @@ use Rattle.plan.proofs.stretches.slot_at.Goals as goal
 
 pub rank-requires : goal.rank-requires
 rank-requires c =
-    let s = c in
-    let g = s.args.cell in
-    let there = up_lt g.0 s.args.level g.1 s.requires.0 s.requires.2 in
+    let g = c.args.cell in
+    let there = up_lt g.0 c.args.level g.1 c.requires.0 c.requires.2 in
     rw c.at_level.ensures (omega arith, omega arith)
 
 pub returns : goal.returns

@@ -8,22 +8,19 @@ use Rattle.plan.proofs.stretches.stretches_at.Goals as goal
 
 pub slot_at-q-requires : goal.slot_at-q-requires
 slot_at-q-requires c =
-    let s = c in
-    let r = s.requires.ranged in
-    rw r.high_level (s.requires.level_le_low, r.deep, r.bounded)
+    let r = c.requires.ranged in
+    rw r.high_level (c.requires.level_le_low, r.deep, r.bounded)
 
 pub overflow_add-half : goal.overflow_add-half
 overflow_add-half c =
-    let s = c in
-    let i = slots_in s.args.plan s.requires.ranged s.args.level s.requires.level_le_low in
-    let h = half_small c.level.result (omega (arith, s.requires.ranged.deep)) in
+    let i = slots_in c.args.plan c.requires.ranged c.args.level c.requires.level_le_low in
+    let h = half_small c.level.result (omega (arith, c.requires.ranged.deep)) in
     omega (arith, half_small deepest (omega arith), c.slot_at-p.ensures, c.half_length-half.ensures)
 
 pub overflow_add-half-2 : goal.overflow_add-half-2
 overflow_add-half-2 c =
-    let s = c in
-    let i = slots_in s.args.plan s.requires.ranged s.args.level s.requires.level_le_low in
-    let h = half_small c.level.result (omega (arith, s.requires.ranged.deep)) in
+    let i = slots_in c.args.plan c.requires.ranged c.args.level c.requires.level_le_low in
+    let h = half_small c.level.result (omega (arith, c.requires.ranged.deep)) in
     omega (
       arith,
       half_small deepest (omega arith),
@@ -34,10 +31,9 @@ overflow_add-half-2 c =
 
 pub overflow_add-half-3 : goal.overflow_add-half-3
 overflow_add-half-3 c =
-    let s = c in
-    let i = slots_in s.args.plan s.requires.ranged s.args.level s.requires.level_le_low in
-    let h = half_small c.level.result (omega (arith, s.requires.ranged.deep)) in
-    let k = few_slots s.args.plan.kind in
+    let i = slots_in c.args.plan c.requires.ranged c.args.level c.requires.level_le_low in
+    let h = half_small c.level.result (omega (arith, c.requires.ranged.deep)) in
+    let k = few_slots c.args.plan.kind in
     omega (
       arith,
       half_small deepest (omega arith),
@@ -49,9 +45,8 @@ overflow_add-half-3 c =
 
 pub arranged-requires : goal.arranged-requires
 arranged-requires c =
-    let s = c in
-    let i = slots_in s.args.plan s.requires.ranged s.args.level s.requires.level_le_low in
-    let k = few_slots s.args.plan.kind in (
+    let i = slots_in c.args.plan c.requires.ranged c.args.level c.requires.level_le_low in
+    let k = few_slots c.args.plan.kind in (
       omega (arith, c.slot_at-p.ensures),
       omega (arith, c.slot_at-q.ensures),
       omega (arith, c.original_slots.ensures),
@@ -59,15 +54,15 @@ arranged-requires c =
 
 pub returns : goal.returns
 unfolding stretches_at
-returns c = let at-sure-last = c in rw (
+returns c = rw (
   c.arranged.ensures,
   c.original_slots.ensures,
   c.new-replicas.ensures,
   c.replica_slots.ensures,
   c.half_length-half.ensures,
   c.level.ensures,
-  at-sure-last.sure_last-last.ensures,
-  at-sure-last.sure_first-first.ensures,
-  at-sure-last.slot_at-q.ensures,
-  at-sure-last.slot_at-p.ensures,
+  c.sure_last-last.ensures,
+  c.sure_first-first.ensures,
+  c.slot_at-q.ensures,
+  c.slot_at-p.ensures,
 )

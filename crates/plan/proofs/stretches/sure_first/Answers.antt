@@ -3,7 +3,7 @@ use Rattle.plan.specs.Plan.{sure_first}
 use Rattle.plan.proofs.stretches.sure_first.Goals as goal
 
 pub begins-requires : goal.begins-requires
-begins-requires c = let s = c in rw c.next-after.ensures (s.requires.level_le_low, s.requires.ranged.deep)
+begins-requires c = rw c.next-after.ensures (c.requires.level_le_low, c.requires.ranged.deep)
 
 pub returns : goal.returns
 unfolding sure_first

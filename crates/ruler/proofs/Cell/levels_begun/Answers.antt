@@ -5,7 +5,7 @@ use native.Mathlib.Omega.{arith}
 use Rattle.ruler.proofs.Cell.levels_begun.Goals as goal
 
 pub overflow_add-result : goal.overflow_add-result
-overflow_add-result c = let g = c in omega (arith, c.power.ensures, pow_mono g.requires.0)
+overflow_add-result c = omega (arith, c.power.ensures, pow_mono c.requires.0)
 
 pub returns : goal.returns
-returns c = let g = c in rw c.power.ensures (zeros_ended g.args.self.0 32 g.args.self.1 (omega arith) g.requires.1)
+returns c = rw c.power.ensures (zeros_ended c.args.self.0 32 c.args.self.1 (omega arith) c.requires.1)

@@ -16,24 +16,22 @@ small : (c : goal.After-power-share)
     → let a = c.args in
     (c.power-share.result ≤ 2 ^ deepest) × ((a.self.1 - 1) % c.power-share.result < c.power-share.result) × ((a.last.1 + 1) % c.power-share.result < c.power-share.result)
 small c =
-    let g = c in
-    let p = pow_pos (31 - count_leading_zeros 32 (bit_xor (g.args.self.1 - 1) (g.args.last.1 + 1))) in
-    let few = share_small g.args.self.0 g.args.self.1 g.args.last.1 g.requires.0 (omega arith) g.requires.1 g.requires.2 in
-    rw c.power-share.ensures (few, mod-lt (g.args.self.1 - 1) p, mod-lt (g.args.last.1 + 1) p)
+    let p = pow_pos (31 - count_leading_zeros 32 (bit_xor (c.args.self.1 - 1) (c.args.last.1 + 1))) in
+    let few = share_small c.args.self.0 c.args.self.1 c.args.last.1 c.requires.0 (omega arith) c.requires.1 c.requires.2 in
+    rw c.power-share.ensures (few, mod-lt (c.args.self.1 - 1) p, mod-lt (c.args.last.1 + 1) p)
 
 pub overflow_add-after : goal.overflow_add-after
 overflow_add-after c = omega (arith, pow_mono c.requires.0)
 
 pub returns-then-self-eq0 : goal.returns-then-self-eq0
 returns-then-self-eq0 c =
-    let g = c in
-    let m = g.args.self.0 in
-    let first : g.args.self.1 ≡ 0 = omega arith in
-    let more : g.args.last.1 + 1 < 2 ^ (m + 1) = omega (arith, two-pow-succ m, ap (λ (k : ℕ). 2 ^ k) (add-one m), pow_pos m) in
-    rw first (sym (pieces_first (m + 1) (g.args.last.1 + 1) more))
+    let m = c.args.self.0 in
+    let first : c.args.self.1 ≡ 0 = omega arith in
+    let more : c.args.last.1 + 1 < 2 ^ (m + 1) = omega (arith, two-pow-succ m, ap (λ (k : ℕ). 2 ^ k) (add-one m), pow_pos m) in
+    rw first (sym (pieces_first (m + 1) (c.args.last.1 + 1) more))
 
 pub overflow_sub-before-2 : goal.overflow_sub-before-2
-overflow_sub-before-2 c = let g = c in zeros_fit g.args.self.0 g.args.self.1 g.args.last.1 g.requires.0 (omega arith) g.requires.1 g.requires.2
+overflow_sub-before-2 c = zeros_fit c.args.self.0 c.args.self.1 c.args.last.1 c.requires.0 (omega arith) c.requires.1 c.requires.2
 
 pub overflow_sub-result : goal.overflow_sub-result
 overflow_sub-result c = rw c.power-share.ensures (pow_pos _)
@@ -55,5 +53,4 @@ overflow_add-result c = omega (arith, small c)
 
 pub returns : goal.returns
 returns c =
-    let g = c in
-    rw c.power-share.ensures (counted g.args.self.0 g.args.self.1 g.args.last.1 g.requires.0 (omega arith) g.requires.1 g.requires.2)
+    rw c.power-share.ensures (counted c.args.self.0 c.args.self.1 c.args.last.1 c.requires.0 (omega arith) c.requires.1 c.requires.2)

@@ -4,4 +4,4 @@ use Rattle.ruler.proofs.Shares.{between}
 use Rattle.ruler.proofs.Ruler.has.Goals as goal
 
 pub returns : goal.returns
-returns c = let s = c in rw (made_is s.args.self s.requires) (between s.args.self.numbers s.args.t)
+returns c = rw (made_is c.args.self c.requires) (between c.args.self.numbers c.args.t)

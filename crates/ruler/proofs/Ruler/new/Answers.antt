@@ -17,6 +17,5 @@ share_of-requires c = sym c.in_bounds.ensures ∙ c.if-not-in_bounds.false
 pub returns : goal.returns
 unfolding judge
 returns c =
-    let g = c in
-    let on : in_bounds g.args.numbers ≡ true = sym g.in_bounds.ensures ∙ g.if-not-in_bounds.false in
+    let on : in_bounds c.args.numbers ≡ true = sym c.in_bounds.ensures ∙ c.if-not-in_bounds.false in
     rw (on, c.share_of.ensures, c.last_of.ensures, c.first_of.ensures)

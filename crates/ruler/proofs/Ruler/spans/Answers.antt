@@ -4,4 +4,4 @@ use Rattle.ruler.proofs.Shares.{between_both}
 use Rattle.ruler.proofs.Ruler.spans.Goals as goal
 
 pub returns : goal.returns
-returns c = let s = c in rw (made_is s.args.self s.requires) (between_both s.args.self.numbers s.args.start s.args.end)
+returns c = rw (made_is c.args.self c.requires) (between_both c.args.self.numbers c.args.start c.args.end)

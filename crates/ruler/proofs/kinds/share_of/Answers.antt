@@ -13,17 +13,15 @@ use Rattle.ruler.proofs.kinds.share_of.Goals as goal
 in_parts : (c : goal.After-span_of)
     → c.steps_of.result * 2 ^ share_bits % 2 ^ 64 ≡ steps_of c.args.n * 2 ^ share_bits
 in_parts c =
-    let s = c in
-    rw c.steps_of.ensures (shl_exact 11 share_bits 64 (omega (arith, (sized s.args.n (to_T s.requires)).few)) (omega arith))
+    rw c.steps_of.ensures (shl_exact 11 share_bits 64 (omega (arith, (sized c.args.n (to_T c.requires)).few)) (omega arith))
 
 pub nonzero_div-result : goal.nonzero_div-result
 nonzero_div-result c = omega (arith, c.span_of.ensures, (sized c.args.n (to_T c.requires)).some)
 
 pub overflow_add-result : goal.overflow_add-result
 overflow_add-result c =
-    let s = c in
     let parts = c.steps_of.result * 2 ^ share_bits % 2 ^ 64 in
-    omega (arith, in_parts c, (sized s.args.n (to_T s.requires)).few, div-le_self parts c.span_of.result)
+    omega (arith, in_parts c, (sized c.args.n (to_T c.requires)).few, div-le_self parts c.span_of.result)
 
 pub returns : goal.returns
 unfolding share_of

@@ -6,14 +6,12 @@ use Rattle.store.proofs.counting.partitions_holding.Goals as goal
 
 pub pieces_to-requires : goal.pieces_to-requires
 pieces_to-requires c =
-    let g = c in
-    let r = g.args.ruler in
-    let t = g.args.t in
-    let ordered = (fair_ruler r g.requires.made).never_falls t.start t.end g.requires.fits.times.ordered in
-    rw (c.bottom_cell-last.ensures, c.bottom_cell-first.ensures) (deep-ruler r g.requires.made, ordered, last_cell_lem r g.requires.made t g.requires.fits)
+    let r = c.args.ruler in
+    let t = c.args.t in
+    let ordered = (fair_ruler r c.requires.made).never_falls t.start t.end c.requires.fits.times.ordered in
+    rw (c.bottom_cell-last.ensures, c.bottom_cell-first.ensures) (deep-ruler r c.requires.made, ordered, last_cell_lem r c.requires.made t c.requires.fits)
 
 pub returns : goal.returns
 returns c =
-    let g = c in
     rw (c.pieces_to.ensures, c.bottom_cell-last.ensures, c.bottom_cell-first.ensures)
-    (pieces-held (scale g.args.ruler) g.args.t (last_cell_lem g.args.ruler g.requires.made g.args.t g.requires.fits))
+    (pieces-held (scale c.args.ruler) c.args.t (last_cell_lem c.args.ruler c.requires.made c.args.t c.requires.fits))

@@ -22,8 +22,7 @@ gather_rows-found-requires c = (omega arith, omega arith, omega arith, omega ari
 
 pub loop-k-preserved : goal.loop-k-preserved
 loop-k-preserved c =
-    let rows = c in
-    (omega arith, omega arith, omega arith, rows.loop-k.invariant.3 ∙ rows.gather_rows-found.ensures.1)
+    (omega arith, omega arith, omega arith, c.loop-k.invariant.3 ∙ c.gather_rows-found.ensures.1)
 
 pub returns : goal.returns
 returns c =

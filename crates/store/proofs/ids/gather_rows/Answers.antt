@@ -10,18 +10,16 @@ loop-k-init c = (omega arith, omega arith, omega arith, refl, refl)
 
 pub loop-k-preserved-then-class_of-class : goal.loop-k-preserved-then-class_of-class
 loop-k-preserved-then-class_of-class c =
-    let turn = c in
-    let loop = turn.loop-k in
-    let args = turn.args in
+    let loop = c.loop-k in
+    let args = c.args in
     let rest = class_hit args.classes args.class args.part.now loop.k (omega arith) c.class_of.ensures c.if-class_of-class.true in
     let there = gather_hit _ loop.room _ _ loop.found _ (omega arith) loop.invariant.4 rest in
     simp length-set (omega arith, omega arith, omega arith, loop.invariant.3, there)
 
 pub loop-k-preserved : goal.loop-k-preserved
 loop-k-preserved c =
-    let turn = c in
-    let loop = turn.loop-k in
-    let args = turn.args in
+    let loop = c.loop-k in
+    let args = c.args in
     let rest = class_miss args.classes args.class args.part.now loop.k (omega arith) c.class_of.ensures c.if-class_of-class.false in
     let there = gather_miss _ loop.room _ _ loop.found _ (omega arith) loop.invariant.4 rest in
     simp length-set (omega arith, omega arith, omega arith, loop.invariant.3, there)

@@ -9,9 +9,8 @@ loop-i-init c = refl
 
 pub loop-i-preserved : goal.loop-i-preserved
 loop-i-preserved c =
-    let turn = c in
-    let args = turn.args in
-    among_next turn.loop-i.found args.id args.words.now turn.loop-i.i (omega arith) ∙ turn.loop-i.invariant
+    let args = c.args in
+    among_next c.loop-i.found args.id args.words.now c.loop-i.i (omega arith) ∙ c.loop-i.invariant
 
 pub returns : goal.returns
 returns c =

@@ -13,16 +13,14 @@ loop-width-init c = narrow_start _ _ room_length (omega arith) (omega arith)
 
 pub overflow_add-low-in-loop-width : goal.overflow_add-low-in-loop-width
 overflow_add-low-in-loop-width c =
-    let turn = c in
-    let half = turn.loop-width.width / 2 in
-    let room = turn.args.room.now in
-    omega (arith, passed_most (leb (get_or room (turn.loop-width.low + half) 0) turn.args.id) c.passed-low.result half c.passed-low.ensures)
+    let half = c.loop-width.width / 2 in
+    let room = c.args.room.now in
+    omega (arith, passed_most (leb (get_or room (c.loop-width.low + half) 0) c.args.id) c.passed-low.result half c.passed-low.ensures)
 
 pub loop-width-preserved : goal.loop-width-preserved
 loop-width-preserved c =
-    let turn = c in
-    let args = turn.args in
-    rw c.passed-low.ensures (narrow_step args.id args.room.now turn.loop-width.low turn.loop-width.width turn.loop-width.invariant (search rules) (omega arith))
+    let args = c.args in
+    rw c.passed-low.ensures (narrow_step args.id args.room.now c.loop-width.low c.loop-width.width c.loop-width.invariant (search rules) (omega arith))
 
 pub returns : goal.returns
 returns c = narrow_end _ _ _ _ c.loop-width.invariant (omega arith)

@@ -25,16 +25,14 @@ class_differs-requires c = (omega arith, c.loop-class.invariant.0)
 
 pub returns-then-not-class_differs : goal.returns-then-not-class_differs
 returns-then-not-class_differs c =
-    let turn = c in
-    let part = turn.args.part.now in
+    let part = c.args.part.now in
     sym (class_stop _ (rows part) _ (sym c.class_differs.ensures ∙ c.if-not-class_differs.true))
 
 pub loop-class-preserved : goal.loop-class-preserved
 loop-class-preserved c =
-    let turn = c in
-    let part = turn.args.part.now in
+    let part = c.args.part.now in
     let here = sym c.class_differs.ensures ∙ c.if-not-class_differs.false in
-    (omega (arith, turn.loop-class.invariant.0), class_more _ (rows part) _ turn.loop-class.invariant.1 here)
+    (omega (arith, c.loop-class.invariant.0), class_more _ (rows part) _ c.loop-class.invariant.1 here)
 
 pub returns : goal.returns
 returns c = sym (classes_end _ (rows c.args.part.now) (omega arith) (λ k h. c.loop-class.invariant.1 k (omega arith)))

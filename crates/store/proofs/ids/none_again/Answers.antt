@@ -10,26 +10,23 @@ loop-k-init c = refl
 
 pub returns-then-holds : goal.returns-then-holds
 returns-then-holds c =
-    let turn = c in
-    let args = turn.args in
+    let args = c.args in
     let read = c.class_of.ensures in
-    let next = class_hit args.classes args.class args.part.now turn.loop-k.k (omega arith) read c.if-class_of-class.true in
-    sym (apart_stop args.room.now _ _ _ next (sym c.holds.ensures ∙ c.if-holds.true)) ∙ turn.loop-k.invariant
+    let next = class_hit args.classes args.class args.part.now c.loop-k.k (omega arith) read c.if-class_of-class.true in
+    sym (apart_stop args.room.now _ _ _ next (sym c.holds.ensures ∙ c.if-holds.true)) ∙ c.loop-k.invariant
 
 pub loop-k-preserved-else-holds : goal.loop-k-preserved-else-holds
 loop-k-preserved-else-holds c =
-    let turn = c in
-    let args = turn.args in
+    let args = c.args in
     let read = c.class_of.ensures in
-    let next = class_hit args.classes args.class args.part.now turn.loop-k.k (omega arith) read c.if-class_of-class.true in
-    apart_more args.room.now _ _ _ next (sym c.holds.ensures ∙ c.if-holds.false) ∙ turn.loop-k.invariant
+    let next = class_hit args.classes args.class args.part.now c.loop-k.k (omega arith) read c.if-class_of-class.true in
+    apart_more args.room.now _ _ _ next (sym c.holds.ensures ∙ c.if-holds.false) ∙ c.loop-k.invariant
 
 pub loop-k-preserved : goal.loop-k-preserved
 loop-k-preserved c =
-    let turn = c in
-    let args = turn.args in
-    let same = class_miss args.classes args.class args.part.now turn.loop-k.k (omega arith) c.class_of.ensures c.if-class_of-class.false in
-    ap (apart args.room.now) (sym same) ∙ turn.loop-k.invariant
+    let args = c.args in
+    let same = class_miss args.classes args.class args.part.now c.loop-k.k (omega arith) c.class_of.ensures c.if-class_of-class.false in
+    ap (apart args.room.now) (sym same) ∙ c.loop-k.invariant
 
 pub returns : goal.returns
 returns c =

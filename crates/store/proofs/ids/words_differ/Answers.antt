@@ -14,26 +14,23 @@ set_mark-set_before-requires c = rw c.mark_of.ensures (mark_inside _ _)
 
 pub returns-then-has : goal.returns-then-has
 returns-then-has c =
-    let marks = c in
     let args = c.args in
     let found = c.has.ensures ∙ ap (among _) (head_lent args.words.now c.loop-i.i) in
     sym (told_stop args.words.now _ (omega arith) (sym found ∙ c.if-has.true))
 
 pub loop-i-preserved-else-has : goal.loop-i-preserved-else-has
 loop-i-preserved-else-has c =
-    let marks = c in
     let args = c.args in
     let found = c.has.ensures ∙ ap (among _) (head_lent args.words.now c.loop-i.i) in
     let told = c.loop-i.invariant in
-    told_more args.words.now _ (omega arith) args.classes _ marks.mark_of.ensures told marks.set_mark-set_before.ensures.1 (sym found ∙ c.if-has.false)
+    told_more args.words.now _ (omega arith) args.classes _ c.mark_of.ensures told c.set_mark-set_before.ensures.1 (sym found ∙ c.if-has.false)
 
 pub loop-i-preserved : goal.loop-i-preserved
 loop-i-preserved c =
-    let marks = c in
     let args = c.args in
     let told = c.loop-i.invariant in
-    let fresh = not-marked args.words.now _ (omega arith) args.classes _ marks.mark_of.ensures told (sym marks.set_mark-set_before.ensures.0 ∙ c.if-set_before.false) in
-    told_more args.words.now _ (omega arith) args.classes _ marks.mark_of.ensures told marks.set_mark-set_before.ensures.1 fresh
+    let fresh = not-marked args.words.now _ (omega arith) args.classes _ c.mark_of.ensures told (sym c.set_mark-set_before.ensures.0 ∙ c.if-set_before.false) in
+    told_more args.words.now _ (omega arith) args.classes _ c.mark_of.ensures told c.set_mark-set_before.ensures.1 fresh
 
 pub returns : goal.returns
 returns c = sym (told_end _ _ _ _ (omega arith) c.loop-i.invariant)

@@ -6,9 +6,8 @@ use Rattle.store.proofs.part.part_between.Goals as goal
 
 pub part_there-requires : goal.part_there-requires
 part_there-requires c =
-    let g = c in
-    let a = g.args in
-    inside-there a.dir.now a.arena.now a.from a.to g.requires (sym c.part_inside.ensures ∙ c.if-part_inside.true)
+    let a = c.args in
+    inside-there a.dir.now a.arena.now a.from a.to c.requires (sym c.part_inside.ensures ∙ c.if-part_inside.true)
 
 pub returns-then-part_inside : goal.returns-then-part_inside
 unfolding part_in

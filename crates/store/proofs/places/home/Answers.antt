@@ -23,11 +23,10 @@ slot_is s t a b l q p e k r = rw (r, e, k, q, p, a, b, l)
 
 pub home_level-level-requires : goal.home_level-level-requires
 home_level-level-requires c =
-    let g = c in
-    let r = g.args.ruler in
-    let t = g.args.t in
-    let ordered = (fair_ruler r g.requires.made).never_falls t.start t.end g.requires.fits.times.ordered in
-    rw (c.bottom_cell-b.ensures, c.bottom_cell-a.ensures) (deep-ruler r g.requires.made, refl, ordered, last_cell_lem r g.requires.made t g.requires.fits)
+    let r = c.args.ruler in
+    let t = c.args.t in
+    let ordered = (fair_ruler r c.requires.made).never_falls t.start t.end c.requires.fits.times.ordered in
+    rw (c.bottom_cell-b.ensures, c.bottom_cell-a.ensures) (deep-ruler r c.requires.made, refl, ordered, last_cell_lem r c.requires.made t c.requires.fits)
 
 pub at_level-requires : goal.at_level-requires
 at_level-requires c =
@@ -75,9 +74,8 @@ slot_of-requires c =
 pub returns : goal.returns
 returns c =
     let level-is : let g = c.args in c.home_level-level.result ≡ home_level (scale g.ruler).m ((scale g.ruler).cell g.t.start) ((scale g.ruler).cell g.t.end) (scale g.ruler).m = rw (c.bottom_cell-b.ensures, c.bottom_cell-a.ensures) at c.home_level-level.ensures in
-    let k = c in
-    let b = k.bottom_cell-b.ensures in
-    let a = k.bottom_cell-a.ensures in
+    let b = c.bottom_cell-b.ensures in
+    let a = c.bottom_cell-a.ensures in
     let last = c.at_level-2.ensures in
     let first = c.at_level.ensures in
     slot_is _ _ a b level-is first last c.same-ends.ensures c.rank_at.ensures c.slot_of.ensures

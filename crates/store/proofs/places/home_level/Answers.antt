@@ -13,28 +13,22 @@ levels_begun-begun-requires c = (c.requires.0, omega arith)
 
 pub overflow_sub-result : goal.overflow_sub-result
 overflow_sub-result c =
-    let far = c in
-    omega (arith, far.levels_begun-begun.ensures, c.level.ensures, trailing_le far.args.a.0 far.args.a.1)
+    omega (arith, c.levels_begun-begun.ensures, c.level.ensures, trailing_le c.args.a.0 c.args.a.1)
 
 pub returns-then-begun-spanned : goal.returns-then-begun-spanned
 returns-then-begun-spanned c =
-    let far = c in
-    let g = far in
-    let k = far.levels_begun-begun in
+    let k = c.levels_begun-begun in
     let spans = c.levels_spanned-spanned.ensures in
     let less : k.result ≤ c.levels_spanned-spanned.result = omega arith in
-    rw c.level.ensures (sym (home_level_is g.args.a.0 g.args.a.1 g.args.b.1 k.result g.requires.2 (omega (arith, k.ensures))
+    rw c.level.ensures (sym (home_level_is c.args.a.0 c.args.a.1 c.args.b.1 k.result c.requires.2 (omega (arith, k.ensures))
     (omega (arith, spans.0, pow_mono less)) (inl (sym k.ensures))))
 
 pub overflow_sub-result-2 : goal.overflow_sub-result-2
 overflow_sub-result-2 c =
-    let far = c in
-    omega (arith, far.levels_begun-begun.ensures, c.level-2.ensures, trailing_le far.args.a.0 far.args.a.1)
+    omega (arith, c.levels_begun-begun.ensures, c.level-2.ensures, trailing_le c.args.a.0 c.args.a.1)
 
 pub returns : goal.returns
 returns c =
-    let far = c in
-    let g = far in
     let k = c.levels_spanned-spanned in
-    rw c.level-2.ensures (sym (home_level_is g.args.a.0 g.args.a.1 g.args.b.1 k.result g.requires.2
-    (omega (arith, far.levels_begun-begun.ensures)) k.ensures.0 (inr k.ensures.1)))
+    rw c.level-2.ensures (sym (home_level_is c.args.a.0 c.args.a.1 c.args.b.1 k.result c.requires.2
+    (omega (arith, c.levels_begun-begun.ensures)) k.ensures.0 (inr k.ensures.1)))

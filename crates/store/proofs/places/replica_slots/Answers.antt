@@ -6,14 +6,12 @@ use Rattle.store.proofs.places.replica_slots.Goals as goal
 
 pub slots_of-requires : goal.slots_of-requires
 slots_of-requires c =
-    let g = c in
-    let r = g.args.ruler in
-    let fits = g.requires.fits.0 in
+    let r = c.args.ruler in
+    let fits = c.requires.fits.0 in
     rw (c.bottom_cell-last.ensures, c.bottom_cell-first.ensures)
-    (deep-ruler r g.requires.made, refl, first_cell_lem r g.requires.made g.args.t fits, last_cell_lem r g.requires.made g.args.t fits, g.requires.fits.1)
+    (deep-ruler r c.requires.made, refl, first_cell_lem r c.requires.made c.args.t fits, last_cell_lem r c.requires.made c.args.t fits, c.requires.fits.1)
 
 pub returns : goal.returns
 unfolding slots_of_trip
 returns c =
-    let k = c in
-    rw (k.bottom_cell-last.ensures, k.bottom_cell-first.ensures) at c.slots_of.ensures
+    rw (c.bottom_cell-last.ensures, c.bottom_cell-first.ensures) at c.slots_of.ensures

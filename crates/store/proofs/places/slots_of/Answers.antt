@@ -11,9 +11,8 @@ next-hi-requires c = let p = c.requires in rw p.1 (p.0, omega arith)
 
 pub loop-half-init : goal.loop-half-init
 loop-half-init c =
-    let s = c in
-    let p = s.requires in
-    rw c.next-hi.ensures (going_start s.args.half s.args.a s.args.b s.args.spots.now p.0 p.1 p.3 p.4)
+    let p = c.requires in
+    rw c.next-hi.ensures (going_start c.args.half c.args.a c.args.b c.args.spots.now p.0 p.1 p.3 p.4)
 
 pub no_later-requires : goal.no_later-requires
 no_later-requires c = c.loop-half.invariant.high_level
@@ -35,21 +34,18 @@ visited_at-n-requires c =
 
 pub shape_of-spots-then-level-eq0 : goal.shape_of-spots-then-level-eq0
 shape_of-spots-then-level-eq0 c =
-    let v = c in
-    wrote_long v.visited_at-n.ensures ∙ v.loop-half.invariant.walking.long
+    wrote_long c.visited_at-n.ensures ∙ c.loop-half.invariant.walking.long
 
 pub returns-then-level-eq0 : goal.returns-then-level-eq0
 returns-then-level-eq0 c =
-    let v = c in
-    let k = v.loop-half in
-    let some : k.lo.1 < k.hi.1 = leb-false _ _ (rw v.no_later.ensures at v.if-no_later.false) in
-    going_end k.invariant _ _ some v.visited_at-n.ensures (omega (arith, c.level.ensures))
+    let k = c.loop-half in
+    let some : k.lo.1 < k.hi.1 = leb-false _ _ (rw c.no_later.ensures at c.if-no_later.false) in
+    going_end k.invariant _ _ some c.visited_at-n.ensures (omega (arith, c.level.ensures))
 
 pub next-requires : goal.next-requires
 next-requires c =
-    let v = c in
-    let k = v.loop-half in
-    let some : k.lo.1 < k.hi.1 = leb-false _ _ (rw v.no_later.ensures at v.if-no_later.false) in
+    let k = c.loop-half in
+    let some : k.lo.1 < k.hi.1 = leb-false _ _ (rw c.no_later.ensures at c.if-no_later.false) in
     let l = (going_level k.invariant some).1 in
     (l.deep, l.low)
 
@@ -58,29 +54,23 @@ above-lo-requires c = rw c.next.ensures (omega (arith, c.level.ensures))
 
 pub above-hi-requires : goal.above-hi-requires
 above-hi-requires c =
-    let i = c in
-    omega (arith, i.level.ensures, c.loop-half.invariant.high_level)
+    omega (arith, c.level.ensures, c.loop-half.invariant.high_level)
 
 pub above-first-requires : goal.above-first-requires
 above-first-requires c =
-    let i = c in
-    omega (arith, i.level.ensures, c.loop-half.invariant.first_level)
+    omega (arith, c.level.ensures, c.loop-half.invariant.first_level)
 
 pub above-last-requires : goal.above-last-requires
 above-last-requires c =
-    let i = c in
-    omega (arith, i.level.ensures, c.loop-half.invariant.last_level)
+    omega (arith, c.level.ensures, c.loop-half.invariant.last_level)
 
 pub loop-half-smaller : goal.loop-half-smaller
 loop-half-smaller c =
-    let u = c in
-    rw (u.above-lo.ensures, u.next.ensures) (omega (arith, u.level.ensures))
+    rw (c.above-lo.ensures, c.next.ensures) (omega (arith, c.level.ensures))
 
 pub loop-half-preserved : goal.loop-half-preserved
 loop-half-preserved c =
-    let u = c in
-    let v = u in
-    let k = v.loop-half in
-    let some : k.lo.1 < k.hi.1 = leb-false _ _ (rw v.no_later.ensures at v.if-no_later.false) in
-    rw (c.above-last.ensures, c.above-first.ensures, c.above-hi.ensures, u.above-lo.ensures, u.next.ensures)
-    (going_turn k.invariant _ _ some v.visited_at-n.ensures (omega (arith, u.level.ensures)))
+    let k = c.loop-half in
+    let some : k.lo.1 < k.hi.1 = leb-false _ _ (rw c.no_later.ensures at c.if-no_later.false) in
+    rw (c.above-last.ensures, c.above-first.ensures, c.above-hi.ensures, c.above-lo.ensures, c.next.ensures)
+    (going_turn k.invariant _ _ some c.visited_at-n.ensures (omega (arith, c.level.ensures)))

@@ -11,9 +11,8 @@ returns-then-not-test c = let e = not-true c.args.test c.if-not-test.true-raw in
 pub returns-then-is_of : goal.returns-then-is_of
 unfolding visit
 returns-then-is_of c =
-    let k = c in
-    let test = not-false k.args.test k.if-not-test.false-raw in
-    let e = rw (k.is_of.ensures, k.same.ensures) at k.if-is_of.true in
+    let test = not-false c.args.test c.if-not-test.false-raw in
+    let e = rw (c.is_of.ensures, c.same.ensures) at c.if-is_of.true in
     record { many = rw (test, e); words = rw (test, e, c.slot_number.ensures, c.same-then-is_of.ensures) }
 
 pub returns : goal.returns

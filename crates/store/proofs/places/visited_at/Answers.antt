@@ -8,21 +8,17 @@ use Rattle.store.proofs.places.visited_at.Goals as goal
 
 pub visited-requires : goal.visited-requires
 visited-requires c =
-    let s = c in
-    let g = s.args in
-    let p = s.requires.1 in
-    let v = s.visited-k.ensures in
+    let g = c.args in
+    let p = c.requires.1 in
+    let v = c.visited-k.ensures in
     let long = wrote_long v in
-    let few = visit-few g.half (eqb s.parity.result 1) g.lo.0 g.lo.1 g.first.1 g.last.1 in
+    let few = visit-few g.half (eqb c.parity.result 1) g.lo.0 g.lo.1 g.first.1 g.last.1 in
     rw (c.first_of_two.ensures, p.high_level)
     record { n_in_bounds = (omega (arith, v.many, few), p.deep, omega (arith, p.high)); same_level = (p.first_level, p.last_level) }
 
 pub returns : goal.returns
 unfolding visits_at
 returns c =
-    let at-parity2 = c in
-    let k = at-parity2 in
-    let u = c in
-    let e = rw k.parity.ensures at k.visited-k.ensures in
-    let f = rw (u.first_of_two.ensures, at-parity2.parity-2.ensures) at u.visited.ensures in
+    let e = rw c.parity.ensures at c.visited-k.ensures in
+    let f = rw (c.first_of_two.ensures, c.parity-2.ensures) at c.visited.ensures in
     wrote_both e f

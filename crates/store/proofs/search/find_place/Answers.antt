@@ -7,33 +7,27 @@ use Rattle.store.proofs.search.find_place.Goals as goal
 
 pub loop-low-init : goal.loop-low-init
 loop-low-init c =
-    let start = c in
-    (search_start start.args.part.now start.args.d start.args.t start.requires, omega arith)
+    (search_start c.args.part.now c.args.d c.args.t c.requires, omega arith)
 
 pub loop-low-preserved-then-precedes : goal.loop-low-preserved-then-precedes
 loop-low-preserved-then-precedes c =
-    let start = c in
-    let read = c in
     let at = c.loop-low in (
-      search_up start.args.part.now start.args.d start.args.t start.requires at.low at.high (at.low + (at.high - at.low) / 2)
-          read.trip_at.result at.invariant.0 (omega arith) (omega arith) read.trip_at.ensures
+      search_up c.args.part.now c.args.d c.args.t c.requires at.low at.high (at.low + (at.high - at.low) / 2)
+          c.trip_at.result at.invariant.0 (omega arith) (omega arith) c.trip_at.ensures
           (sym c.precedes.ensures ∙ c.if-precedes.true),
       omega arith,
     )
 
 pub loop-low-preserved : goal.loop-low-preserved
 loop-low-preserved c =
-    let start = c in
-    let read = c in
     let at = c.loop-low in (
-      search_down start.args.part.now start.args.d start.args.t start.requires at.low at.high (at.low + (at.high - at.low) / 2)
-          read.trip_at.result at.invariant.0 (omega arith) (omega arith) read.trip_at.ensures
+      search_down c.args.part.now c.args.d c.args.t c.requires at.low at.high (at.low + (at.high - at.low) / 2)
+          c.trip_at.result at.invariant.0 (omega arith) (omega arith) c.trip_at.ensures
           (sym c.precedes.ensures ∙ c.if-precedes.false),
       omega arith,
     )
 
 pub returns : goal.returns
 returns c =
-    let start = c in
     let at = c.loop-low in
-    search_end start.args.part.now start.args.d start.args.t start.requires at.low at.high (omega arith) at.invariant.0
+    search_end c.args.part.now c.args.d c.args.t c.requires at.low at.high (omega arith) at.invariant.0

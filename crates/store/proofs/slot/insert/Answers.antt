@@ -62,7 +62,5 @@ one_more_from-requires c =
 pub returns : goal.returns
 returns c = λ ls r.
     let a = c.args in
-    let after-put = c in
-    let after-gap = c in
-    rw (c.one_more_from.ensures, after-put.put_trip.ensures, after-gap.open_gap.ensures)
+    rw (c.one_more_from.ensures, c.put_trip.ensures, c.open_gap.ensures)
     (room-inserted a.dir.now a.arena.now ls a.slot a.pos _ _ a.t r refl refl)

@@ -18,25 +18,22 @@ loop-k-init c = (omega arith, omega arith, omega arith)
 
 pub partitions_holding-requires : goal.partitions_holding-requires
 partitions_holding-requires c =
-    let g = c in
-    let part = g.args.part.now in
+    let part = c.args.part.now in
     let t = trip_at part c.loop-k.k in
-    let fit = each_row part (fits (scale g.args.ruler)) g.requires.fitting_rows.1 c.loop-k.k (omega arith) in
-    record { made = g.requires.made; fits = rw c.trip_at-t.ensures (of_fits (scale g.args.ruler) t (to_T fit)) }
+    let fit = each_row part (fits (scale c.args.ruler)) c.requires.fitting_rows.1 c.loop-k.k (omega arith) in
+    record { made = c.requires.made; fits = rw c.trip_at-t.ensures (of_fits (scale c.args.ruler) t (to_T fit)) }
 
 pub overflow_add-sum : goal.overflow_add-sum
 overflow_add-sum c =
-    let g = c in
-    let few = deepest_most (scale g.args.ruler) c.trip_at-t.result (deep-ruler g.args.ruler g.requires.made) in
-    omega (arith, c.partitions_holding.ensures, g.requires.fitting_rows.0)
+    let few = deepest_most (scale c.args.ruler) c.trip_at-t.result (deep-ruler c.args.ruler c.requires.made) in
+    omega (arith, c.partitions_holding.ensures, c.requires.fitting_rows.0)
 
 pub loop-k-preserved : goal.loop-k-preserved
 loop-k-preserved c =
-    let g = c in
-    let s = scale g.args.ruler in
-    let part = g.args.part.now in
+    let s = scale c.args.ruler in
+    let part = c.args.part.now in
     let k = c.loop-k in
-    let few = deepest_most s c.trip_at-t.result (deep-ruler g.args.ruler g.requires.made) in
+    let few = deepest_most s c.trip_at-t.result (deep-ruler c.args.ruler c.requires.made) in
     let held : c.partitions_holding.result ≡ partitions_holding s (trip_at part k.k) =
     rw (← c.trip_at-t.ensures) c.partitions_holding.ensures
     in
@@ -45,10 +42,9 @@ loop-k-preserved c =
 pub returns : goal.returns
 unfolding counts_to
 returns c =
-    let g = c in
-    let s = scale g.args.ruler in
-    let part = g.args.part.now in
+    let s = scale c.args.ruler in
+    let part = c.args.part.now in
     let k = c.loop-k in
     let all : sum_over (partitions_holding s) (rows part) ≡ k.sum = omega
     (arith, k.invariant.2, sum_end part (partitions_holding s) k.k (omega arith)) in
-    rw (g.requires.fitting_rows.1, all)
+    rw (c.requires.fitting_rows.1, all)

@@ -24,10 +24,9 @@ stands-requires c = record { made = c.requires.made; frame_at = c.requires.frame
 
 pub returns-then-not-stands : goal.returns-then-not-stands
 returns-then-not-stands c =
-    let g = c in
-    let p = stands_in (scale g.args.ruler) g.args.frame in
+    let p = stands_in (scale c.args.ruler) c.args.frame in
     let out = rw c.trip_at.ensures at (sym c.stands.ensures ∙ c.if-not-stands.true) in
-    sym (row_fails g.args.part.now p (order g.args.d) (omega arith) out)
+    sym (row_fails c.args.part.now p (order c.args.d) (omega arith) out)
 
 pub key_at-last-requires : goal.key_at-last-requires
 key_at-last-requires c =
@@ -36,11 +35,9 @@ key_at-last-requires c =
 
 pub loop-k-init : goal.loop-k-init
 loop-k-init c =
-    let e = c in
-    let g = e in
-    let part = g.args.part.now in
-    let p = stands_in (scale g.args.ruler) g.args.frame in
-    let stands = rw e.trip_at.ensures at (sym e.stands.ensures ∙ e.if-not-stands.false) in
+    let part = c.args.part.now in
+    let p = stands_in (scale c.args.ruler) c.args.frame in
+    let stands = rw c.trip_at.ensures at (sym c.stands.ensures ∙ c.if-not-stands.false) in
     (trip_at part 0, id_below part (λ i. omega (arith, c.type_inv.part i)) 0, c.key_at-last.ensures, λ d q. row_first part p (order d) (omega arith) stands)
 
 pub trip_at-requires-in-loop-k : goal.trip_at-requires-in-loop-k
@@ -54,12 +51,11 @@ stands-requires-in-loop-k c = record { made = c.requires.made; frame_at = c.requ
 pub returns-then-not-stands-2 : goal.returns-then-not-stands-2
 returns-then-not-stands-2 c =
     let there : c.loop-k.k < length c.args.part.now / entry_words = omega (arith, c.requires.counted.0, c.loop-k-test.true) in
-    let k = c in
     let a = c.args in
     let p = stands_in (scale a.ruler) a.frame in
-    let inv = k.loop-k.invariant in
+    let inv = c.loop-k.invariant in
     let out = rw c.trip_at-in-loop-k.ensures at (sym c.stands-in-loop-k.ensures ∙ c.if-not-stands-2.true) in
-    sym (row_out a.part.now p (order a.d) inv.0 k.loop-k.k there out) ∙ inv.3 a.d c.key_place-by.ensures
+    sym (row_out a.part.now p (order a.d) inv.0 c.loop-k.k there out) ∙ inv.3 a.d c.key_place-by.ensures
 
 pub key_at-key-requires : goal.key_at-key-requires
 key_at-key-requires c =
@@ -71,43 +67,37 @@ pub returns-then-key-last : goal.returns-then-key-last
 returns-then-key-last c =
     let there : c.loop-k.k < length c.args.part.now / entry_words = omega (arith, c.requires.counted.0, c.loop-k-test.true) in
     let stood : let a = c.args in stands_in (scale a.ruler) a.frame (trip_at a.part.now c.loop-k.k) ≡ true = rw c.trip_at-in-loop-k.ensures at (sym c.stands-in-loop-k.ensures ∙ c.if-not-stands-2.false) in
-    let e = c in
-    let k = c in
     let a = c.args in
     let p = stands_in (scale a.ruler) a.frame in
-    let t = trip_at a.part.now k.loop-k.k in
-    let inv = k.loop-k.invariant in
+    let t = trip_at a.part.now c.loop-k.k in
+    let inv = c.loop-k.invariant in
     let q = c.key_place-by.ensures in
     let by = c.key_place-by.result in
     let low : key_by by t ≤ key_by by inv.0 = rw (← c.key_at-key.ensures, ← inv.2) c.if-key-last.true in
-    let id = id_below a.part.now (λ i. omega (arith, c.type_inv.part i)) k.loop-k.k in
-    sym (row_low a.part.now p a.d by q inv.0 k.loop-k.k inv.1 id there stood low) ∙ inv.3 a.d q
+    let id = id_below a.part.now (λ i. omega (arith, c.type_inv.part i)) c.loop-k.k in
+    sym (row_low a.part.now p a.d by q inv.0 c.loop-k.k inv.1 id there stood low) ∙ inv.3 a.d q
 
 pub loop-k-preserved : goal.loop-k-preserved
 loop-k-preserved c =
     let there : c.loop-k.k < length c.args.part.now / entry_words = omega (arith, c.requires.counted.0, c.loop-k-test.true) in
     let stood : let a = c.args in stands_in (scale a.ruler) a.frame (trip_at a.part.now c.loop-k.k) ≡ true = rw c.trip_at-in-loop-k.ensures at (sym c.stands-in-loop-k.ensures ∙ c.if-not-stands-2.false) in
-    let e = c in
-    let k = c in
     let a = c.args in
     let p = stands_in (scale a.ruler) a.frame in
-    let t = trip_at a.part.now k.loop-k.k in
-    let inv = k.loop-k.invariant in
-    let id = id_below a.part.now (λ i. omega (arith, c.type_inv.part i)) k.loop-k.k in
+    let t = trip_at a.part.now c.loop-k.k in
+    let inv = c.loop-k.invariant in
+    let id = id_below a.part.now (λ i. omega (arith, c.type_inv.part i)) c.loop-k.k in
     let by = c.key_place-by.result in
     let rises : key_by by inv.0 < key_by by t = rw (← c.key_at-key.ensures, ← inv.2) c.if-key-last.false in (
       t,
       id,
       c.key_at-key.ensures,
-      λ d q. row_more a.part.now p d by q inv.0 k.loop-k.k inv.1 id there stood rises ∙ inv.3 d q,
+      λ d q. row_more a.part.now p d by q inv.0 c.loop-k.k inv.1 id there stood rises ∙ inv.3 d q,
     )
 
 pub returns : goal.returns
 returns c =
-    let k = c in
-    let g = c in
-    let a = g.args in
+    let a = c.args in
     let p = stands_in (scale a.ruler) a.frame in
-    let inv = k.loop-k.invariant in
-    let done : length a.part.now / entry_words ≤ k.loop-k.k = omega (arith, g.requires.counted.0, c.loop-k-test.false) in
-    sym (row_end a.part.now p (order a.d) inv.0 k.loop-k.k done) ∙ inv.3 a.d c.key_place-by.ensures
+    let inv = c.loop-k.invariant in
+    let done : length a.part.now / entry_words ≤ c.loop-k.k = omega (arith, c.requires.counted.0, c.loop-k-test.false) in
+    sym (row_end a.part.now p (order a.d) inv.0 c.loop-k.k done) ∙ inv.3 a.d c.key_place-by.ensures

@@ -19,14 +19,13 @@ key_at-key-requires c = (omega arith, omega arith)
 pub is_known-requires : goal.is_known-requires
 unfolding key_place
 is_known-requires c =
-    let g = c in
     let k = c.loop-k.k in
     let read = c.trip_at-t.ensures in
-    let fit = each_row g.args.part.now (fits (scale g.args.ruler)) g.requires.rows_fit k (omega arith) in
+    let fit = each_row c.args.part.now (fits (scale c.args.ruler)) c.requires.rows_fit k (omega arith) in
     record {
-      made = g.requires.made;
-      dir_len = g.requires.dir_len;
-      originals_passed = g.requires.originals_passed;
+      made = c.requires.made;
+      dir_len = c.requires.dir_len;
+      originals_passed = c.requires.originals_passed;
       trip_fits = (rw read fit, rw read c.key_at-key.ensures);
     }
 

@@ -12,11 +12,10 @@ use Rattle.verify.proofs.origin.has_trip.Goals as goal
 
 pub returns-then-n-eq0 : goal.returns-then-n-eq0
 returns-then-n-eq0 c =
-    let g = c in
-    found_nowhere g.args.part.now g.args.t g.args.key g.requires.keyed (omega (arith, g.requires.counted))
+    found_nowhere c.args.part.now c.args.t c.args.key c.requires.keyed (omega (arith, c.requires.counted))
 
 pub loop-width-init : goal.loop-width-init
-loop-width-init c = let g = c in narrow_start _ _ g.args.n (omega arith) (length-up_to _ _ ∙ sym g.requires.counted)
+loop-width-init c = narrow_start _ _ c.args.n (omega arith) (length-up_to _ _ ∙ sym c.requires.counted)
 
 pub overflow_add-low : goal.overflow_add-low
 overflow_add-low c =
@@ -37,8 +36,7 @@ pub loop-width-preserved : goal.loop-width-preserved
 unfolding key_place
 loop-width-preserved c =
     let k = c.loop-width in
-    let g = c in
-    found_step g.args.part.now g.args.t g.args.key g.requires.keyed (λ i. omega (arith, c.type_inv.part i)) g.requires.in_order
+    found_step c.args.part.now c.args.t c.args.key c.requires.keyed (λ i. omega (arith, c.type_inv.part i)) c.requires.in_order
     k.low k.width c.key_at-there.result c.narrowed-low.result k.invariant (omega arith) c.key_at-there.ensures c.narrowed-low.ensures
 
 pub trip_at-requires : goal.trip_at-requires
@@ -46,7 +44,6 @@ trip_at-requires c = let w = c.loop-width.invariant in let inside = w.inside in 
 
 pub returns : goal.returns
 returns c =
-    let g = c in
     let k = c.loop-width in
     rw (c.same.ensures, c.trip_at.ensures)
-    (found_there g.args.part.now g.args.t g.args.key g.requires.keyed k.low k.width k.invariant (omega arith))
+    (found_there c.args.part.now c.args.t c.args.key c.requires.keyed k.low k.width k.invariant (omega arith))

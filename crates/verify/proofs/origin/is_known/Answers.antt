@@ -20,22 +20,20 @@ pub slot_has-requires : goal.slot_has-requires
 unfolding half_length
 slot_has-requires c =
     let trip-fits : Fits (scale c.args.ruler) c.args.t = of_fits (scale c.args.ruler) c.args.t (to_T c.requires.trip_fits.0) in
-    let g = c in
-    let r = g.args.ruler in
-    let dir = g.args.dir.now in
-    let originals = g.args.originals.now in
+    let r = c.args.ruler in
+    let dir = c.args.dir.now in
+    let originals = c.args.originals.now in
     let k = c.home.result in
-    let l : k < 2 * partitions (scale r).m = rw c.home.ensures (home_in r g.args.t g.requires.made trip-fits) in
-    let long = g.requires.dir_len in
-    let passed = g.requires.originals_passed in
+    let l : k < 2 * partitions (scale r).m = rw c.home.ensures (home_in r c.args.t c.requires.made trip-fits) in
+    let long = c.requires.dir_len in
+    let passed = c.requires.originals_passed in
     record {
       part_there = slot_in dir originals _ long passed.0 k l;
-      keyed = g.requires.trip_fits.1;
+      keyed = c.requires.trip_fits.1;
       in_order = slot_in_order (scale r) dir originals _ long passed.1 k l;
     }
 
 pub returns : goal.returns
 unfolding is_known
 returns c =
-    let g = c in
-    rw (g.requires.trip_fits.0, ← c.home.ensures) c.slot_has.ensures
+    rw (c.requires.trip_fits.0, ← c.home.ensures) c.slot_has.ensures

@@ -11,13 +11,12 @@ use Rattle.verify.proofs.origin.slot_has.Goals as goal
 pub has_trip-requires : goal.has_trip-requires
 unfolding slot_at
 has_trip-requires c =
-    let g = c in
-    let n = part_entries g.args.dir.now g.args.originals.now g.args.k _ g.requires.part_there in
+    let n = part_entries c.args.dir.now c.args.originals.now c.args.k _ c.requires.part_there in
     let part = c.part_there.ensures in
     record {
       counted = sym n ∙ ap (λ (l : List ℕ). length l / entry_words) (sym part);
-      keyed = g.requires.keyed;
-      in_order = rw part g.requires.in_order;
+      keyed = c.requires.keyed;
+      in_order = rw part c.requires.in_order;
     }
 
 pub returns : goal.returns

@@ -11,9 +11,8 @@ use Rattle.verify.proofs.partition.ends_of.Goals as goal
 
 pub next-after-requires : goal.next-after-requires
 next-after-requires c =
-    let s = c in
-    let p = s.args.partition in
-    rw c.last_at-last.ensures (s.requires.0, omega (arith, cells_in s.args.m p.0 p.1 s.requires.1 s.requires.2))
+    let p = c.args.partition in
+    rw c.last_at-last.ensures (c.requires.0, omega (arith, cells_in c.args.m p.0 p.1 c.requires.1 c.requires.2))
 
 pub returns-then-not-aft : goal.returns-then-not-aft
 unfolding ends_of last_cell
@@ -24,11 +23,9 @@ returns-then-not-aft c =
 pub returns-then-level-parity : goal.returns-then-level-parity
 unfolding ends_of last_cell
 returns-then-level-parity c =
-    let e = c in
-    let k = e in
-    let aft : k.args.aft ≡ true = k.if-not-aft.false in
-    let last = rw (e.parity.ensures, e.level.ensures) at e.if-level-parity.true in
-    rw (aft, last, c.at.ensures, c.power.ensures, k.next-after.ensures, k.last_at-last.ensures)
+    let aft : c.args.aft ≡ true = c.if-not-aft.false in
+    let last = rw (c.parity.ensures, c.level.ensures) at c.if-level-parity.true in
+    rw (aft, last, c.at.ensures, c.power.ensures, c.next-after.ensures, c.last_at-last.ensures)
 
 pub above-requires : goal.above-requires
 above-requires c =
@@ -40,23 +37,20 @@ pub last_at-requires : goal.last_at-requires
 last_at-requires c =
     let tested : eqb c.args.partition.0 0 || eqb (c.args.partition.1 % 2) 1 ≡ false = rw (c.parity.ensures, c.level.ensures) at c.if-level-parity.false in
     let first : (0 < c.args.partition.0) × (c.args.partition.1 % 2 ≡ 0) = first_of_two_lem c.args.partition.0 c.args.partition.1 tested in
-    let s = c in
-    let p = s.args.partition in
+    let p = c.args.partition in
     let l = first.0 in
-    rw c.above.ensures (omega (arith, s.requires.1), s.requires.0, parent_lt p.0 p.1 l s.requires.2)
+    rw c.above.ensures (omega (arith, c.requires.1), c.requires.0, parent_lt p.0 p.1 l c.requires.2)
 
 pub returns : goal.returns
 unfolding ends_of last_cell
 returns c =
     let tested : eqb c.args.partition.0 0 || eqb (c.args.partition.1 % 2) 1 ≡ false = rw (c.parity.ensures, c.level.ensures) at c.if-level-parity.false in
-    let e = c in
-    let k = e in
-    let aft : k.args.aft ≡ true = k.if-not-aft.false in
+    let aft : c.args.aft ≡ true = c.if-not-aft.false in
     rw (
       aft,
       tested,
       c.last_at.ensures,
       c.above.ensures,
-      k.next-after.ensures,
-      k.last_at-last.ensures,
+      c.next-after.ensures,
+      c.last_at-last.ensures,
     )

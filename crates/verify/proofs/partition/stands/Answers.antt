@@ -24,8 +24,7 @@ has-requires c = rw c.bottom_cell.ensures c.requires.frame_at.starts_at
 pub returns-then-not-has : goal.returns-then-not-has
 unfolding stands_in
 returns-then-not-has c =
-    let k = c in
-    let fit = sym k.fits.ensures ∙ c.if-not-fits.false in
+    let fit = sym c.fits.ensures ∙ c.if-not-fits.false in
     let out = rw c.bottom_cell.ensures at (sym c.has.ensures ∙ c.if-not-has.true) in
     rw (fit, out)
 
@@ -42,8 +41,6 @@ has-requires-2 c = rw c.bottom_cell-2.ensures c.requires.frame_at.ends_at
 pub returns : goal.returns
 unfolding stands_in
 returns c =
-    let e = c in
-    let k = c in
-    let fit = sym k.fits.ensures ∙ c.if-not-fits.false in
-    let starts = rw e.bottom_cell.ensures at (sym e.has.ensures ∙ c.if-not-has.false) in
+    let fit = sym c.fits.ensures ∙ c.if-not-fits.false in
+    let starts = rw c.bottom_cell.ensures at (sym c.has.ensures ∙ c.if-not-has.false) in
     rw (fit, starts, c.has-2.ensures, c.bottom_cell-2.ensures)

@@ -12,53 +12,45 @@ use Rattle.verify.proofs.partition.starts_of.Goals as goal
 
 pub next-requires : goal.next-requires
 next-requires c =
-    let s = c in
-    let p = s.args.partition in
-    rw c.first_at-first.ensures (s.requires.0, omega (arith, cells_in s.args.m p.0 p.1 s.requires.1 s.requires.2))
+    let p = c.args.partition in
+    rw c.first_at-first.ensures (c.requires.0, omega (arith, cells_in c.args.m p.0 p.1 c.requires.1 c.requires.2))
 
 pub returns-then-parity-eq0 : goal.returns-then-parity-eq0
 unfolding starts_of first_cell
 returns-then-parity-eq0 c =
-    let k = c in
-    let i = k.args.partition.1 in
+    let i = c.args.partition.1 in
     let even : eqb (i % 2) 0 ≡ true = eq-eqb (i % 2) 0 (omega (arith, c.parity.ensures)) in
-    rw (k.in-Replicas.is, even, c.at.ensures, k.first_at-first.ensures)
+    rw (c.in-Replicas.is, even, c.at.ensures, c.first_at-first.ensures)
 
 pub above-requires : goal.above-requires
 above-requires c =
     let some_level : 0 < c.args.partition.0 =
-    let s = c in
-    let p = s.args.partition in
+    let p = c.args.partition in
     let odd : p.1 % 2 ≡ 1 = omega (arith, c.parity.ensures, c.if-parity-eq0.false) in
-    odd_below p.0 p.1 s.requires.2 odd in
+    odd_below p.0 p.1 c.requires.2 odd in
     some_level
 
 pub first_at-requires : goal.first_at-requires
 first_at-requires c =
     let some_level : 0 < c.args.partition.0 =
-    let s = c in
-    let p = s.args.partition in
+    let p = c.args.partition in
     let odd : p.1 % 2 ≡ 1 = omega (arith, c.parity.ensures, c.if-parity-eq0.false) in
-    odd_below p.0 p.1 s.requires.2 odd in
-    let s = c in
-    let p = s.args.partition in
+    odd_below p.0 p.1 c.requires.2 odd in
+    let p = c.args.partition in
     let l = some_level in
-    rw c.above.ensures (omega (arith, s.requires.1), s.requires.0, parent_lt p.0 p.1 l s.requires.2)
+    rw c.above.ensures (omega (arith, c.requires.1), c.requires.0, parent_lt p.0 p.1 l c.requires.2)
 
 pub next-requires-in-Replicas : goal.next-requires-in-Replicas
 next-requires-in-Replicas c =
     let some_level : 0 < c.args.partition.0 =
-    let s = c in
-    let p = s.args.partition in
+    let p = c.args.partition in
     let odd : p.1 % 2 ≡ 1 = omega (arith, c.parity.ensures, c.if-parity-eq0.false) in
-    odd_below p.0 p.1 s.requires.2 odd in
-    let e = c in
-    let s = c in
-    let p = s.args.partition in
+    odd_below p.0 p.1 c.requires.2 odd in
+    let p = c.args.partition in
     let l = some_level in
-    let up : p.0 - 1 ≤ s.args.m = omega (arith, s.requires.1) in
+    let up : p.0 - 1 ≤ c.args.m = omega (arith, c.requires.1) in
     rw (c.first_at.ensures, c.above.ensures)
-    (s.requires.0, omega (arith, cells_in s.args.m (p.0 - 1) (p.1 / 2) up (parent_lt p.0 p.1 l s.requires.2)))
+    (c.requires.0, omega (arith, cells_in c.args.m (p.0 - 1) (p.1 / 2) up (parent_lt p.0 p.1 l c.requires.2)))
 
 pub returns-in-Originals : goal.returns-in-Originals
 unfolding starts_of first_cell
@@ -67,15 +59,13 @@ returns-in-Originals c = rw (c.in-Originals.is, c.next.ensures, c.first_at-first
 pub returns-else-parity-eq0 : goal.returns-else-parity-eq0
 unfolding starts_of first_cell
 returns-else-parity-eq0 c =
-    let e = c in
-    let k = e in
     let i = c.args.partition.1 in
-    let odd : eqb (i % 2) 0 ≡ false = ne_eqb (i % 2) 0 (λ z. omega (arith, e.parity.ensures, e.if-parity-eq0.false)) in
+    let odd : eqb (i % 2) 0 ≡ false = ne_eqb (i % 2) 0 (λ z. omega (arith, c.parity.ensures, c.if-parity-eq0.false)) in
     rw (
-      k.in-Replicas.is,
+      c.in-Replicas.is,
       odd,
       c.next-in-Replicas.ensures,
       c.first_at.ensures,
       c.above.ensures,
-      k.first_at-first.ensures,
+      c.first_at-first.ensures,
     )

@@ -17,13 +17,12 @@ looks_from-k-requires c = originals_in c.requires.level_there
 
 pub loop-k-init : goal.loop-k-init
 loop-k-init c =
-    let s = c in
-    let g = s.args in
+    let g = c.args in
     let f = level_look (is_sought g.sought) g.directory.now g.originals.now g.replicas.now g.level in
     let from = c.looks_from-k.ensures in
     let to = c.looks_to-to.ensures in
     let ahead = (from_to g.level g.directory.now).0 in
-    (omega (arith, from, to, ahead), to, sym (ap length (ap (joined f) from ∙ none_before _ s.requires.level_there)))
+    (omega (arith, from, to, ahead), to, sym (ap length (ap (joined f) from ∙ none_before _ c.requires.level_there)))
 
 pub part_of-part-requires : goal.part_of-part-requires
 part_of-part-requires c =
@@ -32,21 +31,19 @@ part_of-part-requires c =
 
 pub overflow_add-count : goal.overflow_add-count
 overflow_add-count c =
-    let s = c in
-    let g = s.args in
+    let g = c.args in
     let q = c.loop-k in
     let t = is_sought g.sought in
     let d = g.directory.now in
     let o = g.originals.now in
     let r = g.replicas.now in
     let seen = look_seen g.sought d o r g.level q.k c.look_at-look.ensures c.part_of-part.ensures in
-    let few = simp length-append at (look-room s.requires.level_there t c.loop-k-test.true q.invariant.1 s.requires.few_matches) in
+    let few = simp length-append at (look-room c.requires.level_there t c.loop-k-test.true q.invariant.1 c.requires.few_matches) in
     omega (arith, c.count_part-count.ensures, ap length seen)
 
 pub loop-k-preserved : goal.loop-k-preserved
 loop-k-preserved c =
-    let s = c in
-    let g = s.args in
+    let g = c.args in
     let q = c.loop-k in
     let t = is_sought g.sought in
     let d = g.directory.now in
@@ -59,8 +56,7 @@ loop-k-preserved c =
 pub returns : goal.returns
 returns c =
     let q = c.loop-k in
-    let s = c in
-    let g = s.args in
+    let g = c.args in
     let f = level_look (is_sought g.sought) g.directory.now g.originals.now g.replicas.now g.level in
     let e : q.k ≡ looks_to g.level g.directory.now = omega (arith, q.invariant.1) in
-    q.invariant.2 ∙ ap length (ap (joined f) e ∙ none_after _ s.requires.level_there)
+    q.invariant.2 ∙ ap length (ap (joined f) e ∙ none_after _ c.requires.level_there)

@@ -20,24 +20,22 @@ stretches_at-level-requires c = record { ranged = c.requires.levels_there.ranged
 pub count_level-count-requires : goal.count_level-count-requires
 count_level-count-requires c =
     let level-row : ℕ → List Trip = level_up (is_sought c.args.sought) c.args.directory.now c.args.originals.now c.args.replicas.now c.args.plan in
-    let s = c in
-    let g = s.args in
+    let g = c.args in
     let q = c.loop-up in
     let at_level : c.stretches_at-level.result ≡ stretches_at g.plan (g.plan.low.0 - q.up) =
     c.stretches_at-level.ensures ∙ ap (λ (m : ℕ). stretches_at g.plan (m - q.up)) q.invariant.1 in
-    let room = row_room level-row q.up (g.plan.low.0 + 1) (omega arith) s.requires.few_matches in
+    let room = row_room level-row q.up (g.plan.low.0 + 1) (omega arith) c.requires.few_matches in
     let few = simp length-append at room in
-    rw at_level record { level_there = s.requires.levels_there.there (g.plan.low.0 - q.up) (omega arith); few_matches = omega arith }
+    rw at_level record { level_there = c.requires.levels_there.there (g.plan.low.0 - q.up) (omega arith); few_matches = omega arith }
 
 pub overflow_add-count : goal.overflow_add-count
 overflow_add-count c =
     let level-row : ℕ → List Trip = level_up (is_sought c.args.sought) c.args.directory.now c.args.originals.now c.args.replicas.now c.args.plan in
-    let s = c in
-    let g = s.args in
+    let g = c.args in
     let q = c.loop-up in
     let at_level : c.stretches_at-level.result ≡ stretches_at g.plan (g.plan.low.0 - q.up) =
     c.stretches_at-level.ensures ∙ ap (λ (m : ℕ). stretches_at g.plan (m - q.up)) q.invariant.1 in
-    let room = row_room level-row q.up (g.plan.low.0 + 1) (omega arith) s.requires.few_matches in
+    let room = row_room level-row q.up (g.plan.low.0 + 1) (omega arith) c.requires.few_matches in
     let few = simp length-append at room in
     let k = rw at_level at c.count_level-count.ensures in
     omega arith
@@ -45,12 +43,11 @@ overflow_add-count c =
 pub loop-up-preserved : goal.loop-up-preserved
 loop-up-preserved c =
     let level-row : ℕ → List Trip = level_up (is_sought c.args.sought) c.args.directory.now c.args.originals.now c.args.replicas.now c.args.plan in
-    let s = c in
-    let g = s.args in
+    let g = c.args in
     let q = c.loop-up in
     let at_level : c.stretches_at-level.result ≡ stretches_at g.plan (g.plan.low.0 - q.up) =
     c.stretches_at-level.ensures ∙ ap (λ (m : ℕ). stretches_at g.plan (m - q.up)) q.invariant.1 in
-    let room = row_room level-row q.up (g.plan.low.0 + 1) (omega arith) s.requires.few_matches in
+    let room = row_room level-row q.up (g.plan.low.0 + 1) (omega arith) c.requires.few_matches in
     let k = rw at_level at c.count_level-count.ensures in
     let n = simp length-append at (ap length (row_more level-row q.up)) in
     (omega arith, q.invariant.1, omega arith)

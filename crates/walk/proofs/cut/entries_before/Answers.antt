@@ -9,34 +9,31 @@ use native.Mathlib.Omega.{arith}
 use Rattle.walk.proofs.cut.entries_before.Goals as goal
 
 pub loop-lo-init : goal.loop-lo-init
-loop-lo-init c = let g = c in (search_start g.args.ends g.args.limit g.args.part.now g.requires, omega arith)
+loop-lo-init c = (search_start c.args.ends c.args.limit c.args.part.now c.requires, omega arith)
 
 pub loop-lo-preserved-then-before : goal.loop-lo-preserved-then-before
 loop-lo-preserved-then-before c =
-    let g = c in
     let k = c.loop-lo in
     let mid = k.lo + (k.hi - k.lo) / 2 in
-    let passes : earlier_than g.args.ends g.args.limit (trip_at g.args.part.now mid) ≡ true =
+    let passes : earlier_than c.args.ends c.args.limit (trip_at c.args.part.now mid) ≡ true =
     rw (← c.trip_at.ensures, ← c.time_of-time.ensures, ← c.before-in-loop-lo.ensures) c.if-before.true
     in (
-      search_up g.args.ends g.args.limit g.args.part.now g.requires k.lo k.hi mid k.invariant.0 (omega arith) (omega arith) passes,
+      search_up c.args.ends c.args.limit c.args.part.now c.requires k.lo k.hi mid k.invariant.0 (omega arith) (omega arith) passes,
       omega arith,
     )
 
 pub loop-lo-preserved : goal.loop-lo-preserved
 loop-lo-preserved c =
-    let g = c in
     let k = c.loop-lo in
     let mid = k.lo + (k.hi - k.lo) / 2 in
-    let fails : earlier_than g.args.ends g.args.limit (trip_at g.args.part.now mid) ≡ false =
+    let fails : earlier_than c.args.ends c.args.limit (trip_at c.args.part.now mid) ≡ false =
     rw (← c.trip_at.ensures, ← c.time_of-time.ensures, ← c.before-in-loop-lo.ensures) c.if-before.false
     in (
-      search_down g.args.ends g.args.limit g.args.part.now g.requires k.lo k.hi mid k.invariant.0 (omega arith) (omega arith) fails,
+      search_down c.args.ends c.args.limit c.args.part.now c.requires k.lo k.hi mid k.invariant.0 (omega arith) (omega arith) fails,
       omega arith,
     )
 
 pub returns : goal.returns
 returns c =
-    let g = c in
     let k = c.loop-lo in
-    search_end g.args.ends g.args.limit g.args.part.now g.requires k.lo k.hi (omega arith) k.invariant.0
+    search_end c.args.ends c.args.limit c.args.part.now c.requires k.lo k.hi (omega arith) k.invariant.0

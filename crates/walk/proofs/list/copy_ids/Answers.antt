@@ -20,13 +20,12 @@ put_if-count-requires c =
 
 pub loop-i-preserved : goal.loop-i-preserved
 loop-i-preserved c =
-    let read = c in
     let g = c.args in
-    let q = read.loop-i in
+    let q = c.loop-i in
     let put = c.put_if-count.ensures in
     let next = turn_listed (runs_on_any g.days) g.part.now q.invariant.2 (omega arith) (omega arith)
-    (c.runs_on_any.ensures ∙ ap (runs_on_any g.days) read.trip_at-trip.ensures) (ap (λ (t : Trip). t.id) read.trip_at-trip.ensures) in
-    (omega arith, ap length put.1 ∙ put-length c.runs_on_any.result q.out q.count read.trip_at-trip.result.id ∙ q.invariant.1, rw (put.0, put.1) next)
+    (c.runs_on_any.ensures ∙ ap (runs_on_any g.days) c.trip_at-trip.ensures) (ap (λ (t : Trip). t.id) c.trip_at-trip.ensures) in
+    (omega arith, ap length put.1 ∙ put-length c.runs_on_any.result q.out q.count c.trip_at-trip.result.id ∙ q.invariant.1, rw (put.0, put.1) next)
 
 pub shape_of-out : goal.shape_of-out
 shape_of-out c = c.loop-i.invariant.1

@@ -18,12 +18,11 @@ looks_from-k-requires c = originals_in c.requires.level_there
 
 pub loop-k-init : goal.loop-k-init
 loop-k-init c =
-    let s = c in
-    let g = s.args in
+    let g = c.args in
     let from = c.looks_from-k.ensures in
     let to = c.looks_to-to.ensures in
     let ahead = (from_to g.level g.directory.now).0 in
-    (omega (arith, from, to, ahead), to, refl, rw (from, none_before _ s.requires.level_there) (listed-none _))
+    (omega (arith, from, to, ahead), to, refl, rw (from, none_before _ c.requires.level_there) (listed-none _))
 
 pub part_of-part-requires : goal.part_of-part-requires
 part_of-part-requires c =
@@ -32,49 +31,43 @@ part_of-part-requires c =
 
 pub offset_bounds-out-count : goal.offset_bounds-out-count
 offset_bounds-out-count c =
-    let s = c in
     let q = c.loop-k in
-    let fits = look-fits s.requires.level_there _ c.loop-k-test.true q.invariant.1 q.invariant.3 s.requires.room in
+    let fits = look-fits c.requires.level_there _ c.loop-k-test.true q.invariant.1 q.invariant.3 c.requires.room in
     omega arith
 
 pub slice_bounds-list_part-count : goal.slice_bounds-list_part-count
 slice_bounds-list_part-count c =
-    let s = c in
     let q = c.loop-k in
-    let fits = look-fits s.requires.level_there _ c.loop-k-test.true q.invariant.1 q.invariant.3 s.requires.room in
+    let fits = look-fits c.requires.level_there _ c.loop-k-test.true q.invariant.1 q.invariant.3 c.requires.room in
     omega arith
 
 pub slice_bounds-list_part-start : goal.slice_bounds-list_part-start
 slice_bounds-list_part-start c =
-    let s = c in
     let q = c.loop-k in
-    let fits = look-fits s.requires.level_there _ c.loop-k-test.true q.invariant.1 q.invariant.3 s.requires.room in
+    let fits = look-fits c.requires.level_there _ c.loop-k-test.true q.invariant.1 q.invariant.3 c.requires.room in
     search rules
 
 pub slice_bounds-list_part-end : goal.slice_bounds-list_part-end
 slice_bounds-list_part-end c =
-    let s = c in
     let q = c.loop-k in
-    let fits = look-fits s.requires.level_there _ c.loop-k-test.true q.invariant.1 q.invariant.3 s.requires.room in
+    let fits = look-fits c.requires.level_there _ c.loop-k-test.true q.invariant.1 q.invariant.3 c.requires.room in
     search rules
 
 pub list_part-count-requires : goal.list_part-count-requires
 list_part-count-requires c =
-    let s = c in
-    let g = s.args in
+    let g = c.args in
     let q = c.loop-k in
     let t = is_sought g.sought in
     let d = g.directory.now in
     let o = g.originals.now in
     let r = g.replicas.now in
     let seen = look_seen g.sought d o r g.level q.k c.look_at-look.ensures c.part_of-part.ensures in
-    let fits = look-fits s.requires.level_there t c.loop-k-test.true q.invariant.1 q.invariant.3 s.requires.room in
+    let fits = look-fits c.requires.level_there t c.loop-k-test.true q.invariant.1 q.invariant.3 c.requires.room in
     omega (arith, ap length seen, lent_room q.out q.count _ fits)
 
 pub overflow_add-count : goal.overflow_add-count
 overflow_add-count c =
-    let s = c in
-    let g = s.args in
+    let g = c.args in
     let q = c.loop-k in
     let t = is_sought g.sought in
     let d = g.directory.now in
@@ -83,7 +76,7 @@ overflow_add-count c =
     let look = c.look_at-look.ensures in
     let seen = look_seen g.sought d o r g.level q.k look c.part_of-part.ensures in
     let taken = c.loop-k-test.true in
-    let fits = look-fits s.requires.level_there t taken q.invariant.1 q.invariant.3 s.requires.room in
+    let fits = look-fits c.requires.level_there t taken q.invariant.1 q.invariant.3 c.requires.room in
     omega (arith, ap length seen, c.list_part-count.ensures.counted)
 
 pub overflow_add-k : goal.overflow_add-k
@@ -94,8 +87,7 @@ loop-k-smaller c = omega (arith, c.loop-k-test.true)
 
 pub loop-k-preserved : goal.loop-k-preserved
 loop-k-preserved c =
-    let s = c in
-    let g = s.args in
+    let g = c.args in
     let q = c.loop-k in
     let t = is_sought g.sought in
     let d = g.directory.now in
@@ -104,7 +96,7 @@ loop-k-preserved c =
     let taken = c.loop-k-test.true in
     let look = c.look_at-look.ensures in
     let seen = look_seen g.sought d o r g.level q.k look c.part_of-part.ensures in
-    let room = look-room s.requires.level_there t taken q.invariant.1 s.requires.room in
+    let room = look-room c.requires.level_there t taken q.invariant.1 c.requires.room in
     let k = rw seen at c.list_part-count.ensures in
     let more = listed_more q.invariant.3 (lent_back q.out q.count k) in
     (omega (arith, taken), q.invariant.1, listed-length more room, rw (row_more (level_look t d o r g.level) q.k) more)
@@ -115,7 +107,6 @@ shape_of-out c = c.loop-k.invariant.2
 pub returns : goal.returns
 returns c =
     let q = c.loop-k in
-    let s = c in
-    let g = s.args in
+    let g = c.args in
     let e : q.k ≡ looks_to g.level g.directory.now = omega (arith, q.invariant.1) in
-    rw (e, none_after (is_sought g.sought) s.requires.level_there) at q.invariant.3
+    rw (e, none_after (is_sought g.sought) c.requires.level_there) at q.invariant.3

@@ -20,9 +20,8 @@ stretches_at-level-requires c = record { ranged = c.requires.levels_there.ranged
 
 pub offset_bounds-answers-count : goal.offset_bounds-answers-count
 offset_bounds-answers-count c =
-    let s = c in
     let q = c.loop-up in
-    let fits = row_fits _ _ q.invariant.3 (omega arith) s.requires.room in
+    let fits = row_fits _ _ q.invariant.3 (omega arith) c.requires.room in
     omega arith
 
 pub slice_bounds-list_level-count : goal.slice_bounds-list_level-count
@@ -39,24 +38,22 @@ slice_bounds-list_level-end c = let fits = row_fits _ _ c.loop-up.invariant.3 (o
 pub list_level-count-requires : goal.list_level-count-requires
 list_level-count-requires c =
     let level-row : ℕ → List Trip = level_up (is_sought c.args.sought) c.args.directory.now c.args.originals.now c.args.replicas.now c.args.plan in
-    let s = c in
-    let g = s.args in
+    let g = c.args in
     let q = c.loop-up in
     let at_level : c.stretches_at-level.result ≡ stretches_at g.plan (g.plan.low.0 - q.up) =
     c.stretches_at-level.ensures ∙ ap (λ (m : ℕ). stretches_at g.plan (m - q.up)) q.invariant.1 in
-    let room = row_room level-row q.up (g.plan.low.0 + 1) (omega arith) s.requires.room in
+    let room = row_room level-row q.up (g.plan.low.0 + 1) (omega arith) c.requires.room in
     let fits = rest-room q.invariant.3 _ room in
-    rw at_level record { level_there = s.requires.levels_there.there (g.plan.low.0 - q.up) (omega arith); room = lent_room q.answers q.count _ fits }
+    rw at_level record { level_there = c.requires.levels_there.there (g.plan.low.0 - q.up) (omega arith); room = lent_room q.answers q.count _ fits }
 
 pub overflow_add-count : goal.overflow_add-count
 overflow_add-count c =
     let level-row : ℕ → List Trip = level_up (is_sought c.args.sought) c.args.directory.now c.args.originals.now c.args.replicas.now c.args.plan in
-    let s = c in
-    let g = s.args in
+    let g = c.args in
     let q = c.loop-up in
     let at_level : c.stretches_at-level.result ≡ stretches_at g.plan (g.plan.low.0 - q.up) =
     c.stretches_at-level.ensures ∙ ap (λ (m : ℕ). stretches_at g.plan (m - q.up)) q.invariant.1 in
-    let room = row_room level-row q.up (g.plan.low.0 + 1) (omega arith) s.requires.room in
+    let room = row_room level-row q.up (g.plan.low.0 + 1) (omega arith) c.requires.room in
     let fits = rest-room q.invariant.3 _ room in
     let k = rw at_level at c.list_level-count.ensures in
     omega (arith, k.counted)
@@ -71,12 +68,11 @@ overflow_add-up c = omega (
 pub loop-up-preserved : goal.loop-up-preserved
 loop-up-preserved c =
     let level-row : ℕ → List Trip = level_up (is_sought c.args.sought) c.args.directory.now c.args.originals.now c.args.replicas.now c.args.plan in
-    let s = c in
-    let g = s.args in
+    let g = c.args in
     let q = c.loop-up in
     let at_level : c.stretches_at-level.result ≡ stretches_at g.plan (g.plan.low.0 - q.up) =
     c.stretches_at-level.ensures ∙ ap (λ (m : ℕ). stretches_at g.plan (m - q.up)) q.invariant.1 in
-    let room = row_room level-row q.up (g.plan.low.0 + 1) (omega arith) s.requires.room in
+    let room = row_room level-row q.up (g.plan.low.0 + 1) (omega arith) c.requires.room in
     let k = rw at_level at c.list_level-count.ensures in
     let more = listed_more q.invariant.3 (lent_back q.answers q.count k) in
     (omega arith, q.invariant.1, listed-length more room, rw (row_more level-row q.up) more)

@@ -29,19 +29,16 @@ part_there-part-requires c = rw c.arena_of-arena.ensures c.requires.there
 
 pub returns-then-stretch : goal.returns-then-stretch
 returns-then-stretch c =
-    let s = c in
-    seen s.args.directory.now s.args.originals.now s.args.replicas.now s.args.look c.arena_of-arena.ensures c.part_there-part.ensures
-    ∙ sure-part s.args.bounds _ _ _ s.args.look c.if-stretch.true
+    seen c.args.directory.now c.args.originals.now c.args.replicas.now c.args.look c.arena_of-arena.ensures c.part_there-part.ensures
+    ∙ sure-part c.args.bounds _ _ _ c.args.look c.if-stretch.true
 
 pub cut-requires : goal.cut-requires
 cut-requires c =
-    let s = c in
-    rw (seen s.args.directory.now s.args.originals.now s.args.replicas.now s.args.look c.arena_of-arena.ensures c.part_there-part.ensures) (s.requires.ordered c.if-stretch.false)
+    rw (seen c.args.directory.now c.args.originals.now c.args.replicas.now c.args.look c.arena_of-arena.ensures c.part_there-part.ensures) (c.requires.ordered c.if-stretch.false)
 
 pub returns : goal.returns
 returns c =
-    let s = c in
-    let a = s.args in
+    let a = c.args in
     c.cut.ensures
-    ∙ ap (cut_of a.look.order a.bounds) (seen s.args.directory.now s.args.originals.now s.args.replicas.now s.args.look c.arena_of-arena.ensures c.part_there-part.ensures)
+    ∙ ap (cut_of a.look.order a.bounds) (seen c.args.directory.now c.args.originals.now c.args.replicas.now c.args.look c.arena_of-arena.ensures c.part_there-part.ensures)
     ∙ cut-part a.bounds _ _ _ a.look c.if-stretch.false
