@@ -1,4 +1,5 @@
 -- How a question ends: refused at a link of its chain, with the list as found, or accepted with the ids in order in its first words.
+use Rattle.std.proofs.Common.{Ok, Err}
 use mathlib.Core.Path.{◌≡◌, sym, ap, ◌∙◌}
 use mathlib.Core.List.{List, ◌++◌}
 use Prim.Native.Nat.{ℕ}
@@ -12,11 +13,12 @@ use Rattle.trip.specs.declared.Trip.{Trip}
 use Rattle.trip.specs.declared.Asking.{Asking}
 use Rattle.trip.specs.declared.Question.{Question}
 use Rattle.layout.specs.declared.Refusal.{Refusal}
-use Rattle.layout.specs.declared.Outcome.{Outcome}
-use Rattle.layout.specs.declared.Outcome.TheVariants.{Accepted, Refused}
+use Rattle.layout.specs.declared.Rejection.{Rejection}
+use Rattle.layout.specs.Outcomes.{Outcome, Accepted, Refused, rejection}
 use Rattle.layout.specs.Answers.{answer, answer_by, answer_to}
 use Rattle.layout.specs.Refusals.{question_tests, room_test, table_of, check_outcome, ask_outcome}
-use Rattle.layout.specs.Calls.{if_accepted, asked, ask_of}
+use Rattle.layout.specs.Calls.{if_accepted, ask_of}
+use Rattle.ask.specs.Told.{asked_by}
 use Rattle.layout.specs.Words.{Index}
 use Rattle.layout.proofs.Checked.{refused_for_all, passed}
 use Rattle.store.specs.Entries.{ids}
@@ -27,13 +29,12 @@ use Rattle.ask.proofs.QuestionJudged.{Judged}
 
 -- ---- the two endings
 
-pub ends_refused : (why : Refusal) (d : ℕ) {o o' : Outcome} {n : ℕ} (is list : List ℕ) → o' ≡ Refused why d → o ≡ Refused why d → n ≡ 0
-    → asked o n list ≡ answered_as o' is list
+pub ends_refused : (r : Rejection) {o : Outcome} (is list : List ℕ) → o ≡ Err r → asked_by (Err r) list ≡ answered_as o is list
 unfolding answered_as if_accepted
-ends_refused why d is list e f z = rw (e, f, z)
+ends_refused r is list e = rw e
 
 pub ends-accepted : (is list : List ℕ) {n : ℕ} {new : List ℕ} → room_test (length is) (length list) ≡ Accepted → n ≡ length is → new ≡ over is list
-    → asked Accepted n new ≡ listed_of is list
+    → asked_by (Ok n) new ≡ listed_of is list
 unfolding listed_of answered_as if_accepted
 ends-accepted is list e n w = rw (e, n, w)
 
@@ -51,10 +52,9 @@ sorted_over ts {old} {mid} {last} {is} {n} {k} w e a l =
 -- ---- 9, 4 and 5
 
 module _ (s : Scale) (ts : List Trip) (q : Asking) (list : List ℕ) where
-  pub ends_unfit : {why : Refusal} {o : Outcome} {n : ℕ} → ((rest : Outcome) → question_tests s q rest ≡ Refused why 0) → o ≡ Refused why 0 → n ≡ 0
-      → asked o n list ≡ answer_of s ts q list
+  pub ends_unfit : (r : Rejection) → ((rest : Outcome) → question_tests s q rest ≡ Err r) → asked_by (Err r) list ≡ answer_of s ts q list
   unfolding answer_of
-  ends_unfit {why} refuses f none = ends_refused why 0 (answer_to q ts) list (refuses _) f none
+  ends_unfit r refuses = ends_refused r (answer_to q ts) list (refuses _)
 
   -- past them the question is one of a window and a relationship
   pub past_chain : (p : Question) → Judged s q p → answer_of s ts q list ≡ listed_of (answer p ts) list
@@ -66,10 +66,9 @@ module _ (s : Scale) (ts : List Trip) (q : Asking) (list : List ℕ) where
 -- ---- 1, 3, 8
 
 module _ (s : Scale) (x : Index) (q : Asking) (list : List ℕ) where
-  pub ends_unchecked : {why : Refusal} {d : ℕ} {o : Outcome} {n : ℕ} → check_outcome s x ≡ Refused why d → o ≡ Refused why d → n ≡ 0
-      → asked o n list ≡ ask_of s x q list
+  pub ends_unchecked : {why : Refusal} → check_outcome s x ≡ Refused why 0 → asked_by (Err (rejection why 0)) list ≡ ask_of s x q list
   unfolding ask_of ask_outcome answered_as
-  ends_unchecked {why} {d} e f z = ends_refused why d (answer_to q (table_of s x)) list (refused_for_all s x why d e _) f z
+  ends_unchecked {why} e = ends_refused (rejection why 0) (answer_to q (table_of s x)) list (refused_for_all s x why 0 e _)
 
   pub past_check : check_outcome s x ≡ Accepted → answer_of s (table_of s x) q list ≡ ask_of s x q list
   unfolding ask_of ask_outcome answer_of answered_as

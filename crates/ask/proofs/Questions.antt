@@ -13,7 +13,8 @@ use Rattle.lists.proofs.Sorting.{ascending-same}
 use Rattle.lists.proofs.Kept.{keep_ext}
 use Rattle.ruler.specs.declared.Time.{Time}
 use Rattle.ruler.specs.declared.Ruler.{Ruler}
-use Rattle.ruler.specs.Ruler.{Scale, most_trips, Made, scale}
+use Rattle.ruler.specs.Ruler.{Scale, most_trips}
+use Rattle.ruler.specs.Made.{scale}
 use Rattle.ruler.proofs.Fair.{Fair}
 use Rattle.trip.specs.declared.Trip.{Trip}
 use Rattle.trip.specs.declared.Window.{Window}
@@ -42,7 +43,7 @@ use Rattle.walk.specs.Levels.{LevelsThere, walk_matches}
 use Rattle.walk.proofs.Levels.{Ready, levels_there, walk-matches}
 use Rattle.walk.proofs.Written.{ids-length}
 
-module _ (ruler : Ruler) (ok : Made ruler) (x : Index) (is : is_index (scale ruler) x ≡ true) (q : Question)
+module _ (ruler : Ruler) (x : Index) (is : is_index (scale ruler) x ≡ true) (q : Question)
     (on : OnRuler (scale ruler) q.window.start q.window.end × (q.day ≤ last_day)) where
   abbrev s : Scale
   s = scale ruler
@@ -60,7 +61,7 @@ module _ (ruler : Ruler) (ok : Made ruler) (x : Index) (is : is_index (scale rul
   p = plan_for s q.relationship q.window
 
   falls : Fair s
-  falls = fair_ruler ruler ok
+  falls = fair_ruler ruler
 
   table : Table s ts (lengths_of x)
   table = (of_is_index s x (to_T is)).table
@@ -89,7 +90,7 @@ module _ (ruler : Ruler) (ok : Made ruler) (x : Index) (is : is_index (scale rul
   ready : Ready s test p x
   ready = rw (plan_for_lem s q.relationship w) (record {
     indexed = is;
-    ranged = in_range s (deep-ruler ruler ok) q.relationship (s.cell w.start) (s.cell w.end) order
+    ranged = in_range s (deep-ruler ruler) q.relationship (s.cell w.start) (s.cell w.end) order
         (falls.one_of w.end on.0.ends);
     sure = λ e t m low high. sought_inside (sought_by q) t (within t m ∙ of_T _ (quick_right s falls q.relationship w e t low high));
   })

@@ -4,7 +4,7 @@ use Rattle.lists.specs.Lists.{over}
 use Rattle.ruler.specs.Ruler.{Scale}
 use Rattle.trip.specs.declared.Trip.{Trip}
 use Rattle.trip.specs.declared.Asking.{Asking}
-use Rattle.layout.specs.declared.Outcome.{Outcome}
+use Rattle.layout.specs.Outcomes.{Outcome}
 use Rattle.layout.specs.Answers.{answer_to}
 use Rattle.layout.specs.Refusals.{question_tests, room_test}
 use Rattle.layout.specs.Calls.{if_accepted, Asked, asked}

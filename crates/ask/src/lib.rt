@@ -4,157 +4,95 @@
 mod judge;
 
 ghost use Rattle.std.specs.Prelude.{◌≡◌, true, ◌≤◌, length};
-ghost use Rattle.ruler.specs.Ruler.{most_trips, Made, scale_of, scale};
+ghost use Rattle.ruler.specs.Ruler.{most_trips, scale_of};
+ghost use Rattle.ruler.specs.Made.{scale};
 ghost use Rattle.trip.specs.Trips.{last_day};
 ghost use Rattle.layout.specs.Answers.{answer};
 ghost use Rattle.layout.specs.Refusals.{OnRuler, table_of, is_index, room_test};
-ghost use Rattle.layout.specs.Calls.{index, asked, ask_of};
-ghost use Rattle.plan.specs.Sought.{is_sought};
-ghost use Rattle.walk.specs.Levels.{LevelsThere, walk_matches};
+ghost use Rattle.layout.specs.Calls.{ask_of};
+ghost use Rattle.store.specs.WordsLent.{index_of};
+ghost use Rattle.walk.specs.Seen.{LevelsSeen, levels_seen};
+ghost use Rattle.ask.specs.Told.{asked_by};
 ghost use Rattle.ask.specs.Chain.{listed_of, answer_of};
 
-use crate::judge::{Judgement, judge};
-use layout::{Outcome, Refusal};
+use crate::judge::judge;
+use layout::{Refusal, Rejection};
 use plan::range::{Plan, plan_for};
 use plan::sought::{Sought, sought_by};
 use ruler::{Numbers, Ruler};
 use store::half::trips_of;
+use store::words::Words;
 use trip::{Asking, Question};
-use verify::{Opened, open};
+use verify::open;
 use walk::count::count_levels;
 use walk::list::list_levels;
 
-// What a question answers: the outcome, and how many ids it listed.
-#[derive(Clone, Copy)]
-pub struct Answered {
-    pub outcome: Outcome,
-    pub count: u32,
-}
-
 // Whether the matches have room in an answer list. They are counted only where the index has more trips than the list has words.
-fn room_for<'a>(
+fn room_for(
     sought: Sought,
     plan: Plan,
-    directory: &[u32],
-    originals: &'a [u32],
-    replicas: &'a [u32],
+    words: Words,
     trips: usize,
     room: usize,
-) -> Outcome
-    requires levels_there { LevelsThere directory.now originals.now replicas.now plan }
-    requires few_matches { (length (walk_matches (is_sought sought) directory.now originals.now replicas.now plan) ≤ trips)
-        × (trips ≤ most_trips) }
-    ensures { result ≡ room_test
-        (length (walk_matches (is_sought sought) directory.now originals.now replicas.now plan))
-        room }
+) -> Result<(), Rejection>
+    requires levels_there { LevelsSeen words plan }
+    requires few_matches { (length (levels_seen sought words plan) ≤ trips) × (trips ≤ most_trips) }
+    ensures { result ≡ room_test (length (levels_seen sought words.entry plan)) room }
 {
     if trips <= room {
-        return Outcome::Accepted;
+        return Ok(());
     }
-    let count = count_levels(sought, plan, directory, originals, replicas);
+    let count = count_levels(sought, plan, words);
     if room < count {
-        return Outcome::Refused {
-            refusal: Refusal::NoRoom,
-            detail: count as u32,
-        };
+        return Err(Refusal::NoRoom.with_detail(count as u32));
     }
-    Outcome::Accepted
+    Ok(())
 }
 
 // The answer to a question that was judged.
-fn listed<'a>(
+fn listed(
     ruler: Ruler,
-    directory: &[u32],
-    originals: &'a [u32],
-    replicas: &'a [u32],
+    words: Words,
     question: Question,
     answers: &mut [u32],
-) -> Answered
-    requires made { Made ruler }
-    requires indexed { is_index (scale ruler) (index directory.now originals.now replicas.now) ≡ true }
+) -> Result<u32, Rejection>
+    requires indexed { is_index (scale ruler) (index_of words) ≡ true }
     requires on_ruler { OnRuler (scale ruler) question.window.start question.window.end × (question.day ≤ last_day) }
-    ensures { asked result.outcome result.count answers.new
-        ≡ listed_of (answer question (table_of (scale ruler) (index directory.now originals.now replicas.now)))
-        answers.old }
+    ensures { asked_by result answers.new ≡ listed_of (answer question (table_of (scale ruler) (index_of words.entry))) answers.old }
 {
-    let window = question.window;
-    let relationship = question.relationship;
     let sought = sought_by(question);
-    let plan = plan_for(ruler, relationship, window);
-    let trips = trips_of(ruler.bottom(), directory);
-    let room = room_for(
-        sought,
-        plan,
-        directory,
-        originals,
-        replicas,
-        trips,
-        answers.len(),
-    );
-    if let Outcome::Refused { refusal, detail } = room {
-        return refused(refusal, detail);
-    }
-    let count = list_levels(sought, plan, directory, originals, replicas, answers);
+    let plan = plan_for(ruler, question.relationship, question.window);
+    let trips = trips_of(ruler.bottom(), words.directory);
+    room_for(sought, plan, words, trips, answers.len())?;
+    let count = list_levels(sought, plan, words, answers);
     lists::sort_ids(&mut answers[0..count]);
-    Answered {
-        outcome: Outcome::Accepted,
-        count: count as u32,
-    }
-}
-
-// "any count that a refused call gives is 0"
-fn refused(refusal: Refusal, detail: u32) -> Answered
-    ensures { (result.outcome ≡ Outcome.Refused refusal detail) × (result.count ≡ 0) }
-{
-    Answered {
-        outcome: Outcome::Refused { refusal, detail },
-        count: 0,
-    }
+    Ok(count as u32)
 }
 
 // The answer to a question on an index, as it is put.
-fn answer_to<'a>(
+fn answer_to(
     ruler: Ruler,
-    directory: &[u32],
-    originals: &'a [u32],
-    replicas: &'a [u32],
+    words: Words,
     asking: Asking,
     answers: &mut [u32],
-) -> Answered
-    requires made { Made ruler }
-    requires indexed { is_index (scale ruler) (index directory.now originals.now replicas.now) ≡ true }
-    ensures { asked result.outcome result.count answers.new
-        ≡ answer_of (scale ruler) (table_of (scale ruler) (index directory.now originals.now replicas.now))
-        asking answers.old }
+) -> Result<u32, Rejection>
+    requires { is_index (scale ruler) (index_of words) ≡ true }
+    ensures { asked_by result answers.new ≡ answer_of (scale ruler) (table_of (scale ruler) (index_of words.entry)) asking answers.old }
 {
-    let judgement = judge(ruler, asking);
-    match judgement {
-        Judgement::Fit(question) => {
-            listed(ruler, directory, originals, replicas, question, answers)
-        }
-        Judgement::Unfit(refusal) => refused(refusal, 0),
-    }
+    let question = judge(ruler, asking)?;
+    listed(ruler, words, question, answers)
 }
 
 // A question on any words, after the tests of the ruler, the directory and the index. The ids of the matches go into the answer list's first
 // words, in ascending order.
-pub fn ask<'a>(
+pub fn ask(
     numbers: Numbers,
-    directory: &[u32],
-    originals: &'a [u32],
-    replicas: &'a [u32],
+    words: Words,
     asking: Asking,
     answers: &mut [u32],
-) -> Answered
-    ensures { asked result.outcome result.count answers.new
-        ≡ ask_of (scale_of numbers) (index directory.now originals.now replicas.now)
-        asking answers.old }
+) -> Result<u32, Rejection>
+    ensures { asked_by result answers.new ≡ ask_of (scale_of numbers) (index_of words.entry) asking answers.old }
 {
-    let opened = open(numbers, directory, originals, replicas);
-    match opened {
-        Opened::Index(ruler) => {
-            answer_to(ruler, directory, originals, replicas, asking, answers)
-        }
-        Opened::Refused(refusal) => refused(refusal, 0),
-    }
+    let ruler = open(numbers, words)?;
+    answer_to(ruler, words, asking, answers)
 }

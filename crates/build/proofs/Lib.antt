@@ -2,7 +2,7 @@
 
 -- its tests
 pub mod RowsJudged
-pub mod Outcomes
+pub mod Says
 -- a half, from the counts of its slots to its words in order
 pub mod Tally
 pub mod Belonging

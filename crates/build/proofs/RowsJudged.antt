@@ -16,10 +16,11 @@ use Rattle.lists.proofs.Members.{none, more}
 use Rattle.lists.proofs.Halving.{at_mem}
 use Rattle.lists.specs.Lists.{sum_over}
 use Rattle.ruler.specs.declared.Ruler.{Ruler}
-use Rattle.ruler.specs.Ruler.{Scale, scale}
+use Rattle.ruler.specs.Ruler.{Scale}
+use Rattle.ruler.specs.Made.{scale}
 use Rattle.trip.specs.declared.Trip.{Trip}
 use Rattle.layout.specs.declared.Half.TheVariants.{Originals, Replicas}
-use Rattle.layout.specs.declared.Outcome.TheVariants.{Accepted}
+use Rattle.layout.specs.Outcomes.{Accepted}
 use Rattle.layout.specs.Words.{entry_words, trip_at, rows, partitions_holding, entries}
 use Rattle.layout.specs.Refusals.{has_id, no_room, row_tests, first_bad_row}
 use Rattle.layout.proofs.RowOrder.{OtherId, Distinct, length-same}
@@ -88,24 +89,11 @@ rows_end s table i h =
 
 -- ---- the room
 
-pub sum_turn : (f : Trip → ℕ) (table : List ℕ) (i sum : ℕ) → i < length table / entry_words
-    → sum + f (trip_at table i) + sum_over f (drop (i + 1) (rows table)) ≡ sum + sum_over f (drop i (rows table))
-unfolding sum_over
-sum_turn f table i sum h =
-    let split : drop i (rows table) ≡ trip_at table i ∷ drop (i + 1) (rows table) =
-    rw (add-one i) (drop-cons (rows table) i no_trip (rw length-rows h)
-    ∙ ap (λ (u : Trip). u ∷ drop (suc i) (rows table)) (get_or_rows table i no_trip h)) in
-    rw split (omega arith)
-
-pub sum_end : (f : Trip → ℕ) (table : List ℕ) (i : ℕ) → length table / entry_words ≤ i → sum_over f (drop i (rows table)) ≡ 0
-unfolding sum_over
-sum_end f table i h = ap (sum_over f) (drop_of_length-le (rows table) {i = i} (rw length-rows h))
-
 module _ (r : Ruler) (table : List ℕ) (w : Tested r table) where
   -- one original for each row
   pub originals_are : length (entries (scale r) Originals (rows table)) ≡ length table / entry_words
   originals_are =
-      let f = fair_ruler r w.good in
+      let f = fair_ruler r in
       let ok = w.rows_ok in
       length-same (entries (scale r) Originals (rows table)) (rows table) (originals_distinct (scale r) f (rows table) ok.fits ok.distinct)
       ok.distinct

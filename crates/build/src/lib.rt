@@ -1,4 +1,4 @@
-// The index of a table.
+// The index of a table. The slices that are written stay apart: each half of the code lends one of them on for writing, and C lends them so.
 #![tactic(auto)]
 
 mod halves;
@@ -6,7 +6,8 @@ mod replicas;
 mod rows;
 
 ghost use Rattle.std.specs.Prelude.{◌≡◌};
-ghost use Rattle.ruler.specs.Ruler.{Made, scale, scale_of};
+ghost use Rattle.ruler.specs.Ruler.{scale_of};
+ghost use Rattle.ruler.specs.Made.{scale};
 ghost use Rattle.layout.specs.Refusals.{build_outcome};
 ghost use Rattle.layout.specs.Calls.{index, after, build_of};
 ghost use Rattle.build.specs.RowsJudged.{lengths};
@@ -15,8 +16,8 @@ use crate::halves::fill;
 use crate::replicas::fill_replicas;
 use crate::rows::{lacks_room, rows_outcome};
 use layout::directory::half_length;
-use layout::{ENTRY_WORDS, Half, Outcome, Refusal, is_accepted, refused};
-use ruler::{Judged, Numbers, Ruler};
+use layout::{ENTRY_WORDS, Half, Refusal, Rejection};
+use ruler::{Numbers, Ruler};
 use store::counting::directory_length;
 
 // What a build says, for a directory and arenas of these lengths: 2, 3, the first bad row, 7. Nothing is written.
@@ -26,25 +27,21 @@ fn judged(
     directory: usize,
     originals: usize,
     replicas: usize,
-) -> Outcome
-    requires { Made ruler }
+) -> Result<(), Rejection>
     ensures { result ≡ build_outcome (scale ruler) table.now (lengths directory originals replicas) }
 {
     let words = table.len();
     if (words % ENTRY_WORDS != 0) | (Ruler::MOST_TRIPS < words / ENTRY_WORDS) {
-        return refused(Refusal::TableSize, 0);
+        return Err(Refusal::TableSize.into());
     }
     if directory != directory_length(ruler.bottom()) {
-        return refused(Refusal::DirectoryLength, 0);
+        return Err(Refusal::DirectoryLength.into());
     }
-    let bad = rows_outcome(ruler, table);
-    if !is_accepted(bad) {
-        return bad;
-    }
+    rows_outcome(ruler, table)?;
     if lacks_room(ruler, table, originals, replicas) {
-        return refused(Refusal::NoRoom, 0);
+        return Err(Refusal::NoRoom.into());
     }
-    Outcome::Accepted
+    Ok(())
 }
 
 // Builds the index of a table on a ruler: both halves of the directory, each with its arena. The replicas come first, as the originals'
@@ -55,32 +52,21 @@ fn build_on(
     directory: &mut [u32],
     originals: &mut [u32],
     replicas: &mut [u32],
-) -> Outcome
-    requires { Made ruler }
+) -> Result<(), Rejection>
     ensures { after result (index directory.new originals.new replicas.new)
         ≡ build_of (scale ruler) table.now (index directory.old originals.old replicas.old) }
 {
-    let outcome = judged(
+    judged(
         ruler,
         table,
         directory.len(),
         originals.len(),
         replicas.len(),
-    );
-    if !is_accepted(outcome) {
-        return outcome;
-    }
-    let n = directory.len();
-    let half = half_length(ruler.bottom());
-    fill_replicas(&mut directory[half..n], replicas, originals, ruler, table);
-    fill(
-        &mut directory[0..half],
-        originals,
-        ruler,
-        table,
-        Half::Originals,
-    );
-    outcome
+    )?;
+    let (o, r) = directory.split_at_mut(half_length(ruler.bottom()));
+    fill_replicas(r, replicas, originals, ruler, table);
+    fill(o, originals, ruler, table, Half::Originals);
+    Ok(())
 }
 
 // Builds the index of a table of rows into a directory and two arenas, over whatever their words were; where it is refused, every word
@@ -91,12 +77,10 @@ pub fn build(
     directory: &mut [u32],
     originals: &mut [u32],
     replicas: &mut [u32],
-) -> Outcome
+) -> Result<(), Rejection>
     ensures { after result (index directory.new originals.new replicas.new)
         ≡ build_of (scale_of numbers) table.now (index directory.old originals.old replicas.old) }
 {
-    let Judged::Good(ruler) = Ruler::new(numbers) else {
-        return refused(Refusal::RulerOutOfBounds, 0);
-    };
+    let ruler = Ruler::new(numbers).ok_or(Refusal::RulerOutOfBounds)?;
     build_on(ruler, table, directory, originals, replicas)
 }

@@ -21,7 +21,8 @@ fn says(
     number: u32,
     name: &[u8],
 ) -> io::Result<()> {
-    let outcome = verify::check(say::ruler(2, 2), directory, originals, replicas);
+    let words = say::words(directory, originals, replicas);
+    let outcome = verify::check(say::ruler(2, 2), words);
     say::case(rt, say::is(outcome, number, 0), name)
 }
 
@@ -126,7 +127,8 @@ fn dropped_and_doubled(rt: &impl Print) -> io::Result<()> {
 
 // The same words on other rulers.
 fn on_ruler(rt: &impl Print, w: u32, m: u32, number: u32, name: &[u8]) -> io::Result<()> {
-    let outcome = verify::check(say::ruler(w, m), &DIRECTORY, &ORIGINALS, &REPLICAS);
+    let words = say::words(&DIRECTORY, &ORIGINALS, &REPLICAS);
+    let outcome = verify::check(say::ruler(w, m), words);
     say::case(rt, say::is(outcome, number, 0), name)
 }
 

@@ -2,6 +2,7 @@
 // and trip 7 on day 31. What a check says of days is among the cases of damage.
 use crate::say;
 use std::io;
+use store::words::Words;
 use trip::{Asking, Trip};
 
 const TABLE: [u32; 12] = [5, 1, 2, 1, 4, 1, 2, 2, 7, 1, 2, 2147483648];
@@ -10,51 +11,43 @@ const TABLE: [u32; 12] = [5, 1, 2, 1, 4, 1, 2, 2, 7, 1, 2, 2147483648];
 const REST: [u32; 8] = [4, 1, 2, 2, 5, 1, 2, 1];
 
 // Whether so many trips share a second of [0,3] on a day, and the list of two words, which were 9, is then this one.
-fn lists<'a>(d: &[u32], o: &'a [u32], r: &'a [u32], day: u32, count: u32, list: &[u32]) -> bool {
+fn lists(words: Words, day: u32, count: u32, list: &[u32; 2]) -> bool {
     let mut answers = [9u32; 2];
     let asking = Asking::of(13, 0, 3, day);
-    let answered = ask::ask(say::ruler(2, 2), d, o, r, asking, &mut answers);
-    let outcome = answered.outcome;
-    say::is(outcome, 0, 0) & (answered.count == count) & say::same(&answers, list)
+    let answered = ask::ask(say::ruler(2, 2), words, asking, &mut answers);
+    answered == Ok(count) && answers == *list
 }
 
-// Whether a question with no word for its answer gets this number and this detail, and lists nothing.
-fn gets<'a>(
-    d: &[u32],
-    o: &'a [u32],
-    r: &'a [u32],
-    asking: Asking,
-    number: u32,
-    detail: u32,
-) -> bool {
-    let answered = ask::ask(say::ruler(2, 2), d, o, r, asking, &mut []);
-    let outcome = answered.outcome;
-    say::is(outcome, number, detail) & (answered.count == 0)
+// Whether a question with no word for its answer is refused with this number and this detail.
+fn gets(words: Words, asking: Asking, number: u32, detail: u32) -> bool {
+    let answered = ask::ask(say::ruler(2, 2), words, asking, &mut []);
+    say::is_refused(answered, number, detail)
 }
 
-fn questions<'a>(rt: &impl Print, d: &[u32], o: &'a [u32], r: &'a [u32]) -> io::Result<()> {
-    let first = lists(d, o, r, 0, 1, &[5, 9]);
-    let second = lists(d, o, r, 1, 1, &[4, 9]);
-    let last = lists(d, o, r, 31, 1, &[7, 9]);
-    let none = lists(d, o, r, 2, 0, &[9, 9]);
+fn questions(rt: &impl Print, words: Words) -> io::Result<()> {
+    let first = lists(words, 0, 1, &[5, 9]);
+    let second = lists(words, 1, 1, &[4, 9]);
+    let last = lists(words, 31, 1, &[7, 9]);
+    let none = lists(words, 2, 0, &[9, 9]);
     say::case(
         rt,
         first & second & last & none,
         b"days: each trip on its own",
     )?;
-    let one = gets(d, o, r, Asking::of(13, 0, 3, 31), 7, 1);
-    let none = gets(d, o, r, Asking::of(13, 0, 3, 30), 0, 0);
+    let one = gets(words, Asking::of(13, 0, 3, 31), 7, 1);
+    let other_day = Asking::of(13, 0, 3, 30);
+    let none = ask::ask(say::ruler(2, 2), words, other_day, &mut []) == Ok(0);
     say::case(rt, one & none, b"days: 7 counts the trips of the day")
 }
 
 // The list has no word, so that 7 would come where 17 didn't.
-fn no_such_day<'a>(rt: &impl Print, d: &[u32], o: &'a [u32], r: &'a [u32]) -> io::Result<()> {
-    let next = gets(d, o, r, Asking::of(13, 0, 3, 32), 17, 0);
-    let most = gets(d, o, r, Asking::of(13, 0, 3, 4294967295), 17, 0);
+fn no_such_day(rt: &impl Print, words: Words) -> io::Result<()> {
+    let next = gets(words, Asking::of(13, 0, 3, 32), 17, 0);
+    let most = gets(words, Asking::of(13, 0, 3, 4294967295), 17, 0);
     say::case(rt, next & most, b"days: day 32 gives 17")?;
-    let code = gets(d, o, r, Asking::of(14, 0, 3, 32), 9, 0);
-    let off = gets(d, o, r, Asking::of(13, 0, 4, 32), 4, 0);
-    let backward = gets(d, o, r, Asking::of(13, 3, 0, 32), 5, 0);
+    let code = gets(words, Asking::of(14, 0, 3, 32), 9, 0);
+    let off = gets(words, Asking::of(13, 0, 4, 32), 4, 0);
+    let backward = gets(words, Asking::of(13, 3, 0, 32), 5, 0);
     say::case(rt, code & off & backward, b"days: 9, 4 and 5 before 17")
 }
 
@@ -63,7 +56,7 @@ fn unbuilt(table: &[u32], number: u32, detail: u32) -> bool {
     let mut d = [7u32; 30];
     let mut o = [7u32; 8];
     let outcome = build::build(say::ruler(2, 2), table, &mut d, &mut o, &mut []);
-    say::is(outcome, number, detail) & say::same(&d, &[7; 30]) & say::same(&o, &[7; 8])
+    say::is(outcome, number, detail) && d == [7; 30] && o == [7; 8]
 }
 
 fn no_days(rt: &impl Print) -> io::Result<()> {
@@ -83,9 +76,7 @@ fn built(table: &[u32], d: &[u32], o: &[u32], r: &[u32]) -> bool {
     say::gives(
         ruler,
         table,
-        d,
-        o,
-        r,
+        say::words(d, o, r),
         &mut [9; 30],
         &mut [9; 12],
         &mut [9; 12],
@@ -113,7 +104,7 @@ fn edits(rt: &impl Print) -> io::Result<()> {
     let mut d = [7u32; 30];
     let mut o = [7u32; 12];
     let mut r = [7u32; 12];
-    build::build(say::ruler(2, 2), &TABLE, &mut d, &mut o, &mut r);
+    let _ = build::build(say::ruler(2, 2), &TABLE, &mut d, &mut o, &mut r);
     let full = stays(&mut d, &mut o, &mut r, 8, 1, 7);
     let idle = stays(&mut d, &mut o, &mut r, 8, 0, 16);
     let taken = stays(&mut d, &mut o, &mut r, 5, 0, 6);
@@ -128,9 +119,10 @@ fn asked(rt: &impl Print) -> io::Result<()> {
     let mut d = [7u32; 30];
     let mut o = [7u32; 12];
     let mut r = [7u32; 12];
-    build::build(say::ruler(2, 2), &TABLE, &mut d, &mut o, &mut r);
-    questions(rt, &d, &o, &r)?;
-    no_such_day(rt, &d, &o, &r)
+    let _ = build::build(say::ruler(2, 2), &TABLE, &mut d, &mut o, &mut r);
+    let words = say::words(&d, &o, &r);
+    questions(rt, words)?;
+    no_such_day(rt, words)
 }
 
 pub fn all(rt: &impl Print) -> io::Result<()> {

@@ -3,52 +3,38 @@
 use crate::say;
 use crate::say::EVERY_DAY;
 use std::io;
+use store::words::Words;
 use trip::Asking;
 
 // Two questions to the four trips, in a list of four words. The list has the id first, and after it the words that it had.
-fn lists_one<'a>(
-    d: &[u32],
-    o: &'a [u32],
-    r: &'a [u32],
-    code: u32,
-    start: u32,
-    end: u32,
-    id: u32,
-) -> bool {
+fn lists_one(words: Words, code: u32, start: u32, end: u32, id: u32) -> bool {
     let mut answers = [5u32; 4];
     let asking = Asking::of(code, start, end, 0);
-    let answered = ask::ask(say::ruler(6, 4), d, o, r, asking, &mut answers);
-    let outcome = answered.outcome;
-    say::is(outcome, 0, 0) & (answered.count == 1) & say::same(&answers, &[id, 5, 5, 5])
+    let answered = ask::ask(say::ruler(6, 4), words, asking, &mut answers);
+    answered == Ok(1) && answers == [id, 5, 5, 5]
 }
 
 // "CONTAINED_BY [1,62]: 9. FINISHES [30,38]: 7."
-fn questions<'a>(rt: &impl Print, d: &[u32], o: &'a [u32], r: &'a [u32]) -> io::Result<()> {
+fn questions(rt: &impl Print, words: Words) -> io::Result<()> {
     say::case(
         rt,
-        lists_one(d, o, r, 10, 1, 62, 9),
+        lists_one(words, 10, 1, 62, 9),
         b"CONTAINED_BY [1,62]: 9",
     )?;
-    say::case(rt, lists_one(d, o, r, 3, 30, 38, 7), b"FINISHES [30,38]: 7")
-}
-
-// The rows of the levels that the ruler has not.
-fn no_more_rows(rows: [[u32; 4]; 11]) -> bool {
-    let two = say::same(&rows[6], &[0; 4]) & say::same(&rows[7], &[0; 4]);
-    let more = say::same(&rows[8], &[0; 4]) & say::same(&rows[9], &[0; 4]);
-    two & more & say::same(&rows[10], &[0; 4])
+    say::case(rt, lists_one(words, 3, 30, 38, 7), b"FINISHES [30,38]: 7")
 }
 
 // "Census: level 0 is 1,0,0,0; level 3 is 0,0,1,1; level 4 is 1,2,1,0; others zero."
-fn census(rt: &impl Print, d: &[u32], o: &[u32], r: &[u32]) -> io::Result<()> {
-    let outcome = view::census_outcome(say::ruler(6, 4), d, o, r);
-    let rows = view::census(say::ruler(6, 4), d, o, r);
-    let top = say::same(&rows[0], &[1, 0, 0, 0]) & say::same(&rows[1], &[0; 4]);
-    let middle = say::same(&rows[2], &[0; 4]) & say::same(&rows[3], &[0, 0, 1, 1]);
-    let bottom = say::same(&rows[4], &[1, 2, 1, 0]) & say::same(&rows[5], &[0; 4]);
+fn census(rt: &impl Print, words: Words) -> io::Result<()> {
+    let outcome = view::census_outcome(say::ruler(6, 4), words);
+    let rows = view::census(say::ruler(6, 4), words);
+    let mut right = [[0; 4]; 11];
+    right[0] = [1, 0, 0, 0];
+    right[3] = [0, 0, 1, 1];
+    right[4] = [1, 2, 1, 0];
     say::case(
         rt,
-        say::is(outcome, 0, 0) & top & middle & bottom & no_more_rows(rows),
+        say::is(outcome, 0, 0) && rows == right,
         b"census of the four trips",
     )
 }
@@ -58,7 +44,7 @@ fn four_trips(rt: &impl Print) -> io::Result<()> {
     let mut directory = [7u32; 126];
     let mut originals = [7u32; 16];
     let mut replicas = [7u32; 16];
-    build::build(
+    let _ = build::build(
         say::ruler(6, 4),
         &[
             7, 21, 38, EVERY_DAY, 3, 20, 20, EVERY_DAY, 9, 0, 63, EVERY_DAY, 4, 39, 40, EVERY_DAY,
@@ -67,8 +53,9 @@ fn four_trips(rt: &impl Print) -> io::Result<()> {
         &mut originals,
         &mut replicas,
     );
-    questions(rt, &directory, &originals, &replicas)?;
-    census(rt, &directory, &originals, &replicas)
+    let words = say::words(&directory, &originals, &replicas);
+    questions(rt, words)?;
+    census(rt, words)
 }
 
 // "w = 1, m = 1, trip 5 [0,0]: originals half 0,0,0,1,1,1,1; replicas half all 0."
@@ -76,9 +63,11 @@ fn one_second(rt: &impl Print) -> io::Result<()> {
     let right = say::gives(
         say::ruler(1, 1),
         &[5, 0, 0, EVERY_DAY],
-        &[0, 0, 0, 1, 1, 1, 1, 0, 0, 0, 0, 0, 0, 0],
-        &[5, 0, 0, EVERY_DAY, 0],
-        &[0, 0],
+        say::words(
+            &[0, 0, 0, 1, 1, 1, 1, 0, 0, 0, 0, 0, 0, 0],
+            &[5, 0, 0, EVERY_DAY, 0],
+            &[0, 0],
+        ),
         &mut [7; 14],
         &mut [7; 5],
         &mut [7; 2],
@@ -91,9 +80,7 @@ fn one_level(rt: &impl Print) -> io::Result<()> {
     let right = say::gives(
         say::ruler(1, 0),
         &[5, 0, 1, EVERY_DAY],
-        &[0, 1, 1, 0, 0, 0],
-        &[5, 0, 1, EVERY_DAY],
-        &[0, 0, 0],
+        say::words(&[0, 1, 1, 0, 0, 0], &[5, 0, 1, EVERY_DAY], &[0, 0, 0]),
         &mut [7; 6],
         &mut [7; 4],
         &mut [7; 3],
@@ -107,9 +94,7 @@ fn empty_table(rt: &impl Print) -> io::Result<()> {
     let right = say::gives(
         say::ruler(6, 4),
         &none,
-        &[0; 126],
-        &none,
-        &none,
+        say::words(&[0; 126], &none, &none),
         &mut [7; 126],
         &mut [],
         &mut [],

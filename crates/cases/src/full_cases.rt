@@ -1,6 +1,4 @@
 // The most trips that an index may have: 4,096 in one slot, 4,096 of 18 partitions each, and edits where there is no room for one more.
-ghost use Rattle.std.specs.Prelude.{◌+◌, ◌*◌, ◌≤◌, length};
-
 use crate::say;
 use crate::say::EVERY_DAY;
 use layout::ENTRY_WORDS;
@@ -9,21 +7,9 @@ use trip::Trip;
 
 // Rows 0, 1, .. of trips with the same times.
 fn fill_rows(table: &mut [u32], start: u32, end: u32) {
-    let mut i: usize = 0;
-    while i < table.len() / ENTRY_WORDS {
-        put_row(table, i, (i % 65536) as u32, start, end);
-        i += 1;
+    for (id, row) in table.chunks_exact_mut(ENTRY_WORDS).enumerate() {
+        row.copy_from_slice(&[(id % 65536) as u32, start, end, EVERY_DAY]);
     }
-}
-
-fn put_row(table: &mut [u32], row: usize, id: u32, start: u32, end: u32)
-    requires { ENTRY_WORDS * (row + 1) ≤ length table.old }
-{
-    let at = ENTRY_WORDS * row;
-    table[at] = id;
-    table[at + 1] = start;
-    table[at + 2] = end;
-    table[at + 3] = EVERY_DAY;
 }
 
 // 4,096 rows with 18 partitions each: 17 replicas beside the original.
@@ -40,7 +26,8 @@ fn most_partitions(rt: &impl Print) -> io::Result<()> {
         &mut originals,
         &mut replicas,
     );
-    let checked = verify::check(say::ruler(18, 10), &directory, &originals, &replicas);
+    let words = say::words(&directory, &originals, &replicas);
+    let checked = verify::check(say::ruler(18, 10), words);
     say::case(
         rt,
         say::is(outcome, 0, 0) & say::is(checked, 0, 0),
@@ -50,11 +37,7 @@ fn most_partitions(rt: &impl Print) -> io::Result<()> {
 
 // Whether the originals of trips that all lie in the first second are their table, with a row's room to spare.
 fn is_table(table: &[u32], originals: &[u32]) -> bool {
-    let n = table.len();
-    if originals.len() < n {
-        return false;
-    }
-    say::same(table, &originals[0..n])
+    originals.starts_with(table)
 }
 
 // With 4,096 trips one more gives 2, whatever its times and days are, and nothing changes.

@@ -1,7 +1,9 @@
-// What a case writes, comparing what it got, and trips and windows by their numbers.
-use layout::Outcome;
+// What a case writes, comparing what it got, and rulers by their numbers. Each file of cases has helpers of its own beside: its rulers, words and
+// sizes are its own.
+use layout::Rejection;
 use ruler::Numbers;
 use std::io;
+use store::words::Words;
 
 // The days of a trip that runs on all of them.
 pub const EVERY_DAY: u32 = 4294967295;
@@ -18,39 +20,38 @@ pub fn case(rt: &impl Print, right: bool, name: &[u8]) -> io::Result<()> {
 }
 
 // Whether an outcome is this number with this detail.
-pub fn is(outcome: Outcome, number: u32, detail: u32) -> bool {
-    (layout::number_of(outcome) == number) & (layout::detail_of(outcome) == detail)
+pub fn is(outcome: Result<(), Rejection>, number: u32, detail: u32) -> bool {
+    layout::number_of(outcome) == number && layout::detail_of(outcome) == detail
 }
 
-// Whether two lists of words are the same.
-pub fn same(a: &[u32], b: &[u32]) -> bool {
-    if a.len() != b.len() {
-        return false;
+// Whether a question is refused with this number and this detail.
+pub fn is_refused(answer: Result<u32, Rejection>, number: u32, detail: u32) -> bool {
+    match answer {
+        Ok(_) => false,
+        Err(rejection) => u32::from(rejection.refusal) == number && rejection.detail == detail,
     }
-    let mut i: usize = 0;
-    while i < a.len() {
-        if a[i] != b[i] {
-            return false;
-        }
-        i += 1;
-    }
-    true
 }
 
 // Whether a build of the table, into the lists of the second index, gives the words of the first.
 pub fn gives(
     ruler: Numbers,
     table: &[u32],
-    directory: &[u32],
-    originals: &[u32],
-    replicas: &[u32],
+    right: Words,
     d: &mut [u32],
     o: &mut [u32],
     r: &mut [u32],
 ) -> bool {
     let outcome = build::build(ruler, table, d, o, r);
-    let same = same(d, directory) & same(o, originals) & same(r, replicas);
-    is(outcome, 0, 0) & same
+    is(outcome, 0, 0) && *d == *right.directory && *o == *right.originals && *r == *right.replicas
+}
+
+// Words that are lent to be read.
+pub fn words<'a>(directory: &'a [u32], originals: &'a [u32], replicas: &'a [u32]) -> Words<'a> {
+    Words {
+        directory,
+        originals,
+        replicas,
+    }
 }
 
 // A ruler of the first kind, and one of the second.

@@ -3,6 +3,7 @@
 use crate::say;
 use ruler::Numbers;
 use std::io;
+use store::words::Words;
 use trip::{Asking, Trip};
 
 // Trips 8 [44,60], 2 [58,59], 6 [40,60] and 3 [60,60]; and the same without trip 8. All trips run on day 0, the bit of value 1.
@@ -15,97 +16,82 @@ fn from_40_to_60() -> Numbers {
 }
 
 // Whether a run is these words.
-fn shows<'a>(
-    d: &[u32],
-    o: &'a [u32],
-    r: &'a [u32],
-    level: u32,
-    partition: u32,
-    subdivision: u32,
-    words: &[u32],
-) -> bool {
-    let outcome = view::run_outcome(from_40_to_60(), d, o, r, level, partition, subdivision);
-    let run = view::run(from_40_to_60(), d, o, r, level, partition, subdivision);
-    say::is(outcome, 0, 0) & say::same(run, words)
+fn shows(words: Words, level: u32, partition: u32, subdivision: u32, right: &[u32]) -> bool {
+    let outcome = view::run_outcome(from_40_to_60(), words, level, partition, subdivision);
+    let run = view::run(
+        from_40_to_60(),
+        words.directory,
+        words.originals,
+        words.replicas,
+        level,
+        partition,
+        subdivision,
+    );
+    say::is(outcome, 0, 0) && *run == *right
 }
 
 // Trip 8 has cells 1 to 7: cell 1 is level 3 partition 1, O_aft; cells 2 and 3 are level 2 partition 1, R_aft; and cells 4 to 7 are level 1
 // partition 1, R_in. Trip 2 has cell 6 and trip 3 cell 7, each a partition of level 3, and trip 6 has all cells, level 0: O_in all three.
-fn places<'a>(rt: &impl Print, d: &[u32], o: &'a [u32], r: &'a [u32]) -> io::Result<()> {
-    let first = shows(d, o, r, 3, 1, 1, &[8, 44, 60, 1]);
-    let between = shows(d, o, r, 2, 1, 3, &[8, 44, 60, 1]);
-    let last = shows(d, o, r, 1, 1, 2, &[8, 44, 60, 1]);
+fn places(rt: &impl Print, words: Words) -> io::Result<()> {
+    let first = shows(words, 3, 1, 1, &[8, 44, 60, 1]);
+    let between = shows(words, 2, 1, 3, &[8, 44, 60, 1]);
+    let last = shows(words, 1, 1, 2, &[8, 44, 60, 1]);
     say::case(rt, first & between & last, b"spread: runs of trip 8")?;
-    let two = shows(d, o, r, 3, 6, 0, &[2, 58, 59, 1]);
-    let six = shows(d, o, r, 0, 0, 0, &[6, 40, 60, 1]);
-    let three = shows(d, o, r, 3, 7, 0, &[3, 60, 60, 1]);
+    let two = shows(words, 3, 6, 0, &[2, 58, 59, 1]);
+    let six = shows(words, 0, 0, 0, &[6, 40, 60, 1]);
+    let three = shows(words, 3, 7, 0, &[3, 60, 60, 1]);
     say::case(rt, two & six & three, b"spread: runs of trips 2, 6 and 3")
 }
 
-fn census(rt: &impl Print, d: &[u32], o: &[u32], r: &[u32]) -> io::Result<()> {
-    let outcome = view::census_outcome(from_40_to_60(), d, o, r);
-    let rows = view::census(from_40_to_60(), d, o, r);
-    let top = say::same(&rows[0], &[1, 0, 0, 0]) & say::same(&rows[1], &[0, 0, 1, 0]);
-    let bottom = say::same(&rows[2], &[0, 0, 0, 1]) & say::same(&rows[3], &[2, 1, 0, 0]);
-    let none = say::same(&rows[4], &[0; 4]) & say::same(&rows[10], &[0; 4]);
+fn census(rt: &impl Print, words: Words) -> io::Result<()> {
+    let outcome = view::census_outcome(from_40_to_60(), words);
+    let rows = view::census(from_40_to_60(), words);
+    let mut right = [[0; 4]; 11];
+    right[0] = [1, 0, 0, 0];
+    right[1] = [0, 0, 1, 0];
+    right[2] = [0, 0, 0, 1];
+    right[3] = [2, 1, 0, 0];
     say::case(
         rt,
-        say::is(outcome, 0, 0) & top & bottom & none,
+        say::is(outcome, 0, 0) && rows == right,
         b"spread: census",
     )
 }
 
 // Whether so many trips stand in a relationship to a window, and the list of four words, which were 5, is then this one.
-fn lists<'a>(
-    ruler: Numbers,
-    d: &[u32],
-    o: &'a [u32],
-    r: &'a [u32],
-    asking: Asking,
-    count: u32,
-    list: &[u32],
-) -> bool {
+fn lists(ruler: Numbers, words: Words, asking: Asking, count: u32, list: &[u32; 4]) -> bool {
     let mut answers = [5u32; 4];
-    let answered = ask::ask(ruler, d, o, r, asking, &mut answers);
-    let outcome = answered.outcome;
-    say::is(outcome, 0, 0) & (answered.count == count) & say::same(&answers, list)
+    let answered = ask::ask(ruler, words, asking, &mut answers);
+    answered == Ok(count) && answers == *list
 }
 
 // Trip 8 shares cell 1 with [43,43], and [57,57] lies in the cell before that of trip 2: neither is listed. The window [40,60] is the whole ruler.
-fn questions<'a>(
-    rt: &impl Print,
-    ruler: Numbers,
-    d: &[u32],
-    o: &'a [u32],
-    r: &'a [u32],
-    name: &[u8],
-) -> io::Result<()> {
-    let cell = lists(ruler, d, o, r, Asking::of(13, 43, 43, 0), 1, &[6, 5, 5, 5]);
-    let next = lists(ruler, d, o, r, Asking::of(13, 57, 57, 0), 2, &[6, 8, 5, 5]);
-    let all = lists(ruler, d, o, r, Asking::of(13, 40, 60, 0), 4, &[2, 3, 6, 8]);
-    let before = lists(ruler, d, o, r, Asking::of(11, 40, 59, 0), 1, &[3, 5, 5, 5]);
-    let within = lists(ruler, d, o, r, Asking::of(10, 45, 59, 0), 2, &[6, 8, 5, 5]);
+fn questions(rt: &impl Print, ruler: Numbers, words: Words, name: &[u8]) -> io::Result<()> {
+    let cell = lists(ruler, words, Asking::of(13, 43, 43, 0), 1, &[6, 5, 5, 5]);
+    let next = lists(ruler, words, Asking::of(13, 57, 57, 0), 2, &[6, 8, 5, 5]);
+    let all = lists(ruler, words, Asking::of(13, 40, 60, 0), 4, &[2, 3, 6, 8]);
+    let before = lists(ruler, words, Asking::of(11, 40, 59, 0), 1, &[3, 5, 5, 5]);
+    let within = lists(ruler, words, Asking::of(10, 45, 59, 0), 2, &[6, 8, 5, 5]);
     say::case(rt, cell & next & all & before & within, name)
 }
 
 // Whether a question is refused with this number, and the list stays.
-fn unasked<'a>(d: &[u32], o: &'a [u32], r: &'a [u32], start: u32, end: u32, number: u32) -> bool {
+fn unasked(words: Words, start: u32, end: u32, number: u32) -> bool {
     let mut answers = [5u32; 4];
     let asking = Asking::of(13, start, end, 0);
-    let answered = ask::ask(from_40_to_60(), d, o, r, asking, &mut answers);
-    let outcome = answered.outcome;
-    say::is(outcome, number, 0) & (answered.count == 0) & say::same(&answers, &[5; 4])
+    let answered = ask::ask(from_40_to_60(), words, asking, &mut answers);
+    say::is_refused(answered, number, 0) && answers == [5; 4]
 }
 
-fn windows<'a>(rt: &impl Print, d: &[u32], o: &'a [u32], r: &'a [u32]) -> io::Result<()> {
-    let early = unasked(d, o, r, 39, 60, 4);
-    let late = unasked(d, o, r, 40, 61, 4);
+fn windows(rt: &impl Print, words: Words) -> io::Result<()> {
+    let early = unasked(words, 39, 60, 4);
+    let late = unasked(words, 40, 61, 4);
     say::case(
         rt,
         early & late,
         b"spread: windows [39,60] and [40,61] give 4",
     )?;
-    let both = unasked(d, o, r, 61, 39, 4) & unasked(d, o, r, 60, 40, 5);
+    let both = unasked(words, 61, 39, 4) & unasked(words, 60, 40, 5);
     say::case(rt, both, b"spread: window [61,39] gives 4, [60,40] gives 5")
 }
 
@@ -113,57 +99,39 @@ fn windows<'a>(rt: &impl Print, d: &[u32], o: &'a [u32], r: &'a [u32]) -> io::Re
 fn checked(
     rt: &impl Print,
     ruler: Numbers,
-    d: &[u32],
-    o: &[u32],
-    r: &[u32],
+    words: Words,
     number: u32,
     name: &[u8],
 ) -> io::Result<()> {
-    let outcome = verify::check(ruler, d, o, r);
+    let outcome = verify::check(ruler, words);
     say::case(rt, say::is(outcome, number, 0), name)
 }
 
 // The words under other rulers. From 40 to 61 the last second of trip 8 is in cell 6; under w = 6 it begins in cell 5. From 39 to 60 a cell is
 // three seconds, 39 to 41 the first, and the trips have the cells that they had, 60 alone the last.
-fn other_rulers<'a>(rt: &impl Print, d: &[u32], o: &'a [u32], r: &'a [u32]) -> io::Result<()> {
+fn other_rulers(rt: &impl Print, words: Words) -> io::Result<()> {
     let kind = say::ruler(6, 3);
-    checked(rt, kind, d, o, r, 8, b"spread: words of it under w 6, m 3")?;
+    checked(rt, kind, words, 8, b"spread: words of it under w 6, m 3")?;
     let later = say::spread(3, 40, 61);
-    checked(rt, later, d, o, r, 8, b"spread: words of it from 40 to 61")?;
+    checked(rt, later, words, 8, b"spread: words of it from 40 to 61")?;
     let sooner = say::spread(3, 40, 59);
-    checked(
-        rt,
-        sooner,
-        d,
-        o,
-        r,
-        8,
-        b"spread: a ruler that ends too soon",
-    )?;
+    checked(rt, sooner, words, 8, b"spread: a ruler that ends too soon")?;
     let flatter = say::spread(2, 40, 60);
-    checked(rt, flatter, d, o, r, 3, b"spread: a flatter ruler")?;
+    checked(rt, flatter, words, 3, b"spread: a flatter ruler")?;
     let earlier = say::spread(3, 39, 60);
-    checked(
-        rt,
-        earlier,
-        d,
-        o,
-        r,
-        0,
-        b"spread: words of it from 39 to 60",
-    )?;
-    questions(rt, earlier, d, o, r, b"spread: the same ids from 39 to 60")
+    checked(rt, earlier, words, 0, b"spread: words of it from 39 to 60")?;
+    questions(rt, earlier, words, b"spread: the same ids from 39 to 60")
 }
 
 // All that is asked of the index of the four trips.
-fn answers<'a>(rt: &impl Print, d: &[u32], o: &'a [u32], r: &'a [u32]) -> io::Result<()> {
+fn answers(rt: &impl Print, words: Words) -> io::Result<()> {
     let ruler = from_40_to_60();
-    checked(rt, ruler, d, o, r, 0, b"spread: check")?;
-    places(rt, d, o, r)?;
-    census(rt, d, o, r)?;
-    questions(rt, ruler, d, o, r, b"spread: questions")?;
-    windows(rt, d, o, r)?;
-    other_rulers(rt, d, o, r)
+    checked(rt, ruler, words, 0, b"spread: check")?;
+    places(rt, words)?;
+    census(rt, words)?;
+    questions(rt, ruler, words, b"spread: questions")?;
+    windows(rt, words)?;
+    other_rulers(rt, words)
 }
 
 fn four_trips(rt: &impl Print) -> io::Result<()> {
@@ -182,18 +150,11 @@ fn four_trips(rt: &impl Print) -> io::Result<()> {
         say::is(built, 0, 0),
         b"spread: lo and hi are on the ruler",
     )?;
-    answers(rt, &directory, &originals, &replicas)?;
+    answers(rt, say::words(&directory, &originals, &replicas))?;
     originals[16] = 1;
     let name = b"spread: a spare word";
-    checked(
-        rt,
-        from_40_to_60(),
-        &directory,
-        &originals,
-        &replicas,
-        8,
-        name,
-    )
+    let words = say::words(&directory, &originals, &replicas);
+    checked(rt, from_40_to_60(), words, 8, name)
 }
 
 // Whether a build is refused and writes nothing.
@@ -208,7 +169,7 @@ fn refused(
     let mut directory = [7u32; 62];
     let mut originals = [7u32; 8];
     let outcome = build::build(ruler, table, &mut directory, &mut originals, &mut []);
-    let kept = say::same(&directory, &[7; 62]) & say::same(&originals, &[7; 8]);
+    let kept = directory == [7; 62] && originals == [7; 8];
     say::case(rt, say::is(outcome, number, detail) & kept, name)
 }
 
@@ -247,9 +208,7 @@ fn built(table: &[u32], d: &[u32], o: &[u32], r: &[u32]) -> bool {
     say::gives(
         ruler,
         table,
-        d,
-        o,
-        r,
+        say::words(d, o, r),
         &mut [9; 62],
         &mut [9; 16],
         &mut [9; 8],
@@ -285,7 +244,7 @@ fn edits(rt: &impl Print) -> io::Result<()> {
     let mut directory = [7u32; 62];
     let mut originals = [7u32; 16];
     let mut replicas = [7u32; 8];
-    build::build(
+    let _ = build::build(
         from_40_to_60(),
         &REST,
         &mut directory,
@@ -303,11 +262,11 @@ fn edits(rt: &impl Print) -> io::Result<()> {
 }
 
 // Whether under both kinds trip 9 alone of these words shares a second with [0,2].
-fn listed_under_both<'a>(d: &[u32], o: &'a [u32]) -> bool {
+fn listed_under_both(words: Words) -> bool {
     let asking = Asking::of(13, 0, 2, 0);
     let list = [9, 5, 5, 5];
-    let one = lists(say::spread(2, 0, 3), d, o, &[], asking, 1, &list);
-    let other = lists(say::ruler(2, 2), d, o, &[], asking, 1, &list);
+    let one = lists(say::spread(2, 0, 3), words, asking, 1, &list);
+    let other = lists(say::ruler(2, 2), words, asking, 1, &list);
     one & other
 }
 
@@ -322,27 +281,21 @@ fn both_kinds(rt: &impl Print) -> io::Result<()> {
     let built = build::build(spread, &table, &mut directory, &mut originals, &mut []);
     say::case(rt, say::is(built, 0, 0), b"from 0 to 3")?;
     let name = b"its words under w 2, m 2";
-    checked(rt, bits, &directory, &originals, &[], 0, name)?;
-    let same = listed_under_both(&directory, &originals);
+    let words = say::words(&directory, &originals, &[]);
+    checked(rt, bits, words, 0, name)?;
+    let same = listed_under_both(words);
     say::case(rt, same, b"the same id under both")
 }
 
 // No trips: an index under every ruler of this m.
 fn no_trips(rt: &impl Print) -> io::Result<()> {
     let d = [0u32; 30];
+    let words = say::words(&d, &[0], &[]);
     let short = say::spread(2, 0, 1);
-    checked(rt, short, &d, &[0], &[], 0, b"no trips, from 0 to 1")?;
+    checked(rt, short, words, 0, b"no trips, from 0 to 1")?;
     let long = say::spread(2, 9, 16777215);
-    checked(rt, long, &d, &[0], &[], 0, b"no trips, from 9 to 2^24 - 1")?;
-    checked(
-        rt,
-        say::ruler(24, 2),
-        &d,
-        &[0],
-        &[],
-        0,
-        b"no trips, under w 24",
-    )
+    checked(rt, long, words, 0, b"no trips, from 9 to 2^24 - 1")?;
+    checked(rt, say::ruler(24, 2), words, 0, b"no trips, under w 24")
 }
 
 // Builds one trip under a ruler with m = 10, and says whether its only entry is the original of a partition, in its "in" slot.
@@ -350,8 +303,17 @@ fn stands_at(ruler: Numbers, trip: &[u32], level: u32, partition: u32) -> bool {
     let mut directory = [7u32; 8190];
     let mut originals = [7u32; 4];
     let built = build::build(ruler, trip, &mut directory, &mut originals, &mut []);
-    let run = view::run(ruler, &directory, &originals, &[], level, partition, 0);
-    say::is(built, 0, 0) & say::same(run, trip)
+    let words = say::words(&directory, &originals, &[]);
+    let run = view::run(
+        ruler,
+        words.directory,
+        words.originals,
+        words.replicas,
+        level,
+        partition,
+        0,
+    );
+    say::is(built, 0, 0) && *run == *trip
 }
 
 // The widest ruler: (2^24 - 2) x 1023 / (2^24 - 1) is less than 1023 by a part of 1, so the second before the last is in cell 1022, and both in
@@ -368,11 +330,11 @@ fn widest_and_narrowest(rt: &impl Print) -> io::Result<()> {
 }
 
 // It runs at 24:30:00, and not at 0:30:00.
-fn runs_by_night<'a>(ruler: Numbers, d: &[u32], o: &'a [u32], r: &'a [u32]) -> bool {
+fn runs_by_night(ruler: Numbers, words: Words) -> bool {
     let by_night = Asking::of(13, 88200, 88800, 0);
     let by_day = Asking::of(13, 1800, 2400, 0);
-    let found = lists(ruler, d, o, r, by_night, 1, &[9, 5, 5, 5]);
-    found & lists(ruler, d, o, r, by_day, 0, &[5; 4])
+    let found = lists(ruler, words, by_night, 1, &[9, 5, 5, 5]);
+    found & lists(ruler, words, by_day, 0, &[5; 4])
 }
 
 // A timetable that ends at 28:00:00, and the trip from 23:40:00 to 25:10:00.
@@ -381,14 +343,15 @@ fn past_midnight(rt: &impl Print) -> io::Result<()> {
     let mut originals = [7u32; 4];
     let mut replicas = [7u32; 68];
     let ruler = say::spread(10, 0, 100800);
-    build::build(
+    let _ = build::build(
         ruler,
         &[9, 85200, 90600, 1],
         &mut directory,
         &mut originals,
         &mut replicas,
     );
-    let right = runs_by_night(ruler, &directory, &originals, &replicas);
+    let words = say::words(&directory, &originals, &replicas);
+    let right = runs_by_night(ruler, words);
     say::case(rt, right, b"23:40:00 to 25:10:00 of 28 hours")
 }
 

@@ -2,7 +2,7 @@
 use Rattle.std.specs.Prelude.{List, [], ◌∷◌, ◌++◌, ℕ, length}
 use Rattle.ruler.specs.declared.Numbers.{Numbers}
 use Rattle.ruler.specs.Ruler.{scale_of}
-use Rattle.layout.specs.declared.Outcome.{Outcome}
+use Rattle.layout.specs.Outcomes.{Outcome}
 use Rattle.layout.specs.Refusals.{number_of, detail_of, check_outcome, run_outcome}
 use Rattle.layout.specs.Calls.{index, After, Asked, build_of, add_of, remove_of, ask_of, census_of, run_of}
 use Rattle.trip.specs.Trips.{trip_of, asking_of}

@@ -2,7 +2,8 @@
 use Rattle.std.specs.Prelude.{cond, List, [], ◌∷◌}
 use Rattle.conformance.specs.Calls.{Case}
 use Rattle.lists.specs.Lists.{every, same, count, padded, keep, insert, sort, joined, up_to, over}
-use Rattle.ruler.specs.Ruler.{in_bounds, scale_of, cell_up, judge}
+use Rattle.ruler.specs.Ruler.{in_bounds, scale_of, cell_up}
+use Rattle.ruler.specs.Made.{judge}
 use Rattle.trip.specs.Relationships.{code_of, related}
 use Rattle.trip.specs.Trips.{runs_on, never_runs}
 use Rattle.layout.specs.Stored.{partitions_at, first_cell, last_cell, within, holds, holds_trip, is_original, is_in, subdivision_of, is_of, belongs}

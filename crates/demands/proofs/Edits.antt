@@ -1,5 +1,6 @@
 -- Demand 3: "After each accepted addition or removal every word is what a build for those trips would write": for EVERY table that gives the words
 -- before, the call leaves what build leaves for that table with the trip added or taken out. All are over `Numbers`: for the ruler that the call names, of either kind.
+use Rattle.std.proofs.Common.{Err, Ok}
 use mathlib.Core.Path.{◌≡◌, refl, ◌∙◌}
 use mathlib.Core.List.{List, [], ◌∷◌, ◌++◌, Memᴰ as Mem}
 use Prim.Native.Nat.{ℕ, ◌≤◌}
@@ -9,8 +10,7 @@ use Rattle.ruler.specs.Ruler.{scale_of}
 use Rattle.trip.specs.declared.Trip.{Trip}
 use Rattle.layout.specs.declared.Half.{Half}
 use Rattle.layout.specs.declared.Refusal.{Refusal}
-use Rattle.layout.specs.declared.Outcome.{Outcome}
-use Rattle.layout.specs.declared.Outcome.TheVariants.{Accepted, Refused}
+use Rattle.layout.specs.Outcomes.{Outcome, Accepted, Refused}
 use Rattle.layout.specs.Words.{trip_words, words, rows, entries, Index}
 use Rattle.layout.specs.Refusals.{row_tests, IndexOf}
 use Rattle.layout.specs.Calls.{After, after, if_accepted, leaving, build_of, add_of, without, remove_of}
@@ -62,8 +62,8 @@ unfolding if_accepted
 either n x table g a new changes stays = go a.outcome refl
   where
     go : (o : Outcome) → a.outcome ≡ o → Left (scale_of n) x (if_accepted o new table) a.words
-    go Accepted e = changes e
-    go (Refused why d) e = rw (stays why d e) (record { is-index = g; lengths = refl })
+    go (Ok _) e = changes e
+    go (Err r) e = rw (stays r.refusal r.detail e) (record { is-index = g; lengths = refl })
 
 edit_left : (n : Numbers) (x : Index) (table : List ℕ) → IndexOf (scale_of n) table x → (e : Edit)
     → Left (scale_of n) x (if_accepted (edit_of (scale_of n) x e).outcome (edited_table e table) table) (edit_of (scale_of n) x e).words

@@ -1,5 +1,6 @@
 -- Demand 2: "Exact." Each statement holds for EVERY table that gives the words, `IndexOf`; that the words of an accepted call have one is
 -- proofs/Edits.antt. All are over `Numbers`: for the ruler that the call names, of either kind.
+use Rattle.std.proofs.Common.{Some}
 use mathlib.Core.Path.{◌≡◌, sym, ◌∙◌}
 use mathlib.Core.Logic.{◌↔◌}
 use mathlib.Core.List.{List, map, Memᴰ as Mem}
@@ -17,11 +18,10 @@ use Rattle.trip.specs.declared.Trip.{Trip}
 use Rattle.trip.specs.declared.Asking.{Asking}
 use Rattle.trip.specs.declared.Question.{Question}
 use Rattle.trip.specs.declared.Relationship.{Relationship}
-use Rattle.trip.specs.declared.Named.TheVariants.{As}
 use Rattle.trip.specs.Relationships.{named, related}
 use Rattle.trip.specs.Trips.{runs_on}
 use Rattle.layout.specs.declared.Refusal.TheVariants.{NoRoom}
-use Rattle.layout.specs.declared.Outcome.TheVariants.{Accepted, Refused}
+use Rattle.layout.specs.Outcomes.{Accepted, Refused}
 use Rattle.layout.specs.Words.{rows, Reordered, Index, lengths_of, layout}
 use Rattle.layout.specs.Answers.{matches, answer, question, subdivision_numbered, census, run_words, run_from, matching}
 use Rattle.layout.specs.Refusals.{window_tests, IndexOf, run_outcome, check_outcome}
@@ -48,7 +48,7 @@ module _ (n : Numbers) (x : Index) (table : List ℕ) (accepted : (build_of (sca
 -- ---- "A question under any of fourteen relationships lists exactly the right ids, each once, ascending"
 
 module _ (n : Numbers) (x : Index) (table : List ℕ) (g : IndexOf (scale_of n) table x) (q : Asking) (r : Relationship)
-    (is : named q.code ≡ As r) (list : List ℕ) where
+    (is : named q.code ≡ Some r) (list : List ℕ) where
   -- the list and its count
   pub ask_exact : (ask_of (scale_of n) x q list).outcome ≡ Accepted → ask_of (scale_of n) x q list
       ≡ asked Accepted (length (answer (question r q) (rows table))) (over (answer (question r q) (rows table)) list)

@@ -8,3 +8,4 @@ pub mod Edits
 pub mod Thirteen
 pub mod Rulers
 pub mod StandIns
+pub mod LandingLaws

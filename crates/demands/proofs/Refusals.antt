@@ -2,6 +2,7 @@
 -- input is proofs/Settled.antt; that none faults and all end is what the checker proves of each function.) A result is given by what the public
 -- contracts say of it, and by nothing else: `build_of`, `add_of`, `remove_of`, `ask_of`, `census_of` and `run_of` (layout/specs/Calls.antt) are the
 -- right-hand sides of their equations.
+use Rattle.std.proofs.Common.{Err, Ok}
 use mathlib.Core.Path.{◌≡◌, sym, ◌∙◌}
 use mathlib.Core.Logic.{◌↔◌}
 use mathlib.Core.Bool.{false}
@@ -18,8 +19,7 @@ use Rattle.trip.specs.declared.Trip.{Trip}
 use Rattle.trip.specs.declared.Asking.{Asking}
 use Rattle.layout.specs.declared.Refusal.{Refusal}
 use Rattle.layout.specs.declared.Refusal.TheVariants.{RulerOutOfBounds, TableSize, DirectoryLength, OffRuler, Backward, IdTaken, NoRoom, NotAnIndex, NoRelationship, NoSuchId, NoSuchSlot, NoDays, NoSuchDay}
-use Rattle.layout.specs.declared.Outcome.{Outcome}
-use Rattle.layout.specs.declared.Outcome.TheVariants.{Accepted, Refused}
+use Rattle.layout.specs.Outcomes.{Outcome, Accepted, Refused}
 use Rattle.layout.specs.Words.{directory_length, partitions_holding, Index}
 use Rattle.layout.specs.Refusals.{refusal_number, number_of, refuse, time_tests, row_tests_by, row_tests, window_tests, question_tests, room_test, IndexOfSome, is_index, index_tests, add_outcome, remove_outcome, ask_outcome, run_outcome, check_outcome}
 use Rattle.layout.specs.Calls.{if_accepted, leaving, build_of, add_of, remove_of, ask_of, census_of, no_census, run_of}
@@ -72,8 +72,8 @@ eighteen_at_most n h t = deepest_most (scale_of n) t (scale-m n h)
 
 -- "The number isn't used again.": no outcome of any call has it
 pub no_eleven : (o : Outcome) → number_of o ≡ 11 → ⊥
-no_eleven Accepted e = omega arith
-no_eleven (Refused why d) e = other why e
+no_eleven (Ok _) e = omega arith
+no_eleven (Err r) e = other r.refusal e
   where
     other : (why : Refusal) → refusal_number why ≡ 11 → ⊥
     other RulerOutOfBounds e = omega arith

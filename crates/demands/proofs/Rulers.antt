@@ -7,7 +7,7 @@ use Prim.Native.Nat.{ℕ}
 use Rattle.ruler.specs.declared.Numbers.{Numbers}
 use Rattle.ruler.specs.Ruler.{scale_of}
 use Rattle.trip.specs.declared.Asking.{Asking}
-use Rattle.layout.specs.declared.Outcome.TheVariants.{Accepted}
+use Rattle.layout.specs.Outcomes.{Accepted}
 use Rattle.layout.specs.Words.{rows, Index, lengths_of, layout}
 use Rattle.layout.specs.Refusals.{window_tests, IndexOf}
 use Rattle.layout.specs.Calls.{ask_of}

@@ -6,7 +6,8 @@ use Prim.Native.Nat.{ℕ}
 use Rattle.lists.specs.Lists.{ascending}
 use Rattle.ruler.specs.declared.Time.{Time}
 use Rattle.ruler.specs.declared.Numbers.{Numbers}
-use Rattle.ruler.specs.Ruler.{time_at, before, same_time, no_later, scale_of, judge, bottom_of}
+use Rattle.ruler.specs.Ruler.{time_at, before, same_time, no_later, scale_of, bottom_of}
+use Rattle.ruler.specs.Made.{judge}
 use Rattle.trip.specs.declared.Trip.{Trip}
 use Rattle.trip.specs.declared.Window.{Window}
 use Rattle.trip.specs.declared.Asking.{Asking}
@@ -14,7 +15,7 @@ use Rattle.trip.specs.declared.Relationship.{Relationship}
 use Rattle.trip.specs.Relationships.{named, related}
 use Rattle.trip.specs.Trips.{trip_of, same_trip, runs_on_any, never_runs, window_of, asking_of}
 use Rattle.layout.specs.declared.Refusal.{Refusal}
-use Rattle.layout.specs.declared.Outcome.{Outcome}
+use Rattle.layout.specs.Outcomes.{Outcome}
 use Rattle.layout.specs.Words.{Index}
 use Rattle.layout.specs.Refusals.{refusal_number, number_of, detail_of, check_outcome, run_outcome}
 use Rattle.layout.specs.Calls.{After, after, Asked, asked, build_of, add_of, remove_of, ask_of, census_of, run_of, run_from_of}

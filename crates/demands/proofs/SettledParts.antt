@@ -18,7 +18,7 @@ one_padded front a b n k e f l =
     let same : n ≡ k = omega (arith, simp (length-append, length-replicate) at long) in
     e ∙ ap (λ (i : ℕ). front ++ replicate i 0) same ∙ sym f
 
--- `insert` and `remove` of a slot, `add_to_slot` and `remove_from_slot`
+-- `insert` and `remove` of a slot, and `at_slot` of an edit
 pub slots_settled : (d e a b : List ℕ) (slots : List (List Trip)) → Holds d a slots → Holds e b slots → length a ≡ length b → (d ≡ e) × (a ≡ b)
 slots_settled d e a b slots h g l =
     (h.counts ∙ sym g.counts, one_padded (words (flat slots)) a b h.free g.free h.entries g.entries l)

@@ -100,7 +100,7 @@ one_feed : (said : Feed) (out : List ℕ) → OneFeed said out
 one_feed said out r q y z l m bytes others a b =
     let same = a.holds ∙ sym b.holds in
     let keeps = ap (λ (h : Held). h.keeps) same in
-    let stands = one_standing a.sound b.sound y z l m same in
+    let stands = one_standing r.standing q.standing y z l m same in
     let count = a.count ∙ sym b.count in (
       (λ i. record { standing = stands i; written = count i }),
       ap (λ (s : State). s.words) keeps,
@@ -112,7 +112,7 @@ one_feed said out r q y z l m bytes others a b =
 pub begin_settled : (r q : Standing) → Begun r → Begun q → r ≡ q
 begin_settled r q a b =
     let none = index [] [] [] in
-    one_standing a.0 b.0 none none [] [] (a.1 none [] ∙ sym (b.1 none []))
+    one_standing r q none none [] [] (a.1 none [] ∙ sym (b.1 none []))
 
 pub feed_settled : (h : Held) (chunk out : List ℕ) → OneFeed (feed_of h chunk) out
 feed_settled h chunk out = one_feed (feed_of h chunk) out

@@ -7,12 +7,13 @@ use Prim.Native.Nat.{ℕ, ◌*◌}
 use native.Mathlib.Omega.{arith}
 use lib.ListN.{get_or, replicate}
 use Rattle.lists.specs.Lists.{every, same, count, padded, keep, insert, sort, joined, up_to, over}
-use Rattle.ruler.specs.Ruler.{in_bounds, scale_of, cell_up, judge}
+use Rattle.ruler.specs.Ruler.{in_bounds, scale_of, cell_up}
+use Rattle.ruler.specs.Made.{judge}
 use Rattle.trip.specs.declared.Trip.{Trip}
 use Rattle.trip.specs.Relationships.{code_of, related}
 use Rattle.trip.specs.Trips.{trip_of, runs_on, never_runs}
 use Rattle.layout.specs.declared.Refusal.TheVariants.{NoRoom}
-use Rattle.layout.specs.declared.Outcome.TheVariants.{Refused}
+use Rattle.layout.specs.Outcomes.{Refused}
 use Rattle.layout.specs.Stored.{partitions_at, first_cell, last_cell, within, holds, holds_trip, is_original, is_in, subdivision_of, is_of, belongs}
 use Rattle.layout.specs.Words.{entry_words, Index, trip_words, trip_at, words, rows, partitions, directory_length, half_length, partition_number, level_of, place_of, slot_number, by_id, by_start, by_end, order, slot_trips, slot, entries_before, entries, directory_half, arena, lengths_of, layout}
 use Rattle.layout.specs.Answers.{matches, answer, answer_by, answer_to, subdivision_number, subdivision_numbered, level_count, level_row, census, half_of, is_aft, run_words, run_from}

@@ -21,7 +21,7 @@ use Rattle.trip.specs.Trips.{runs_on, window_of, asking_of}
 use Rattle.trip.proofs.Naming.{code_names}
 use Rattle.trip.proofs.ExactlyOne.{one_of_thirteen, neither_before_nor_after}
 use Rattle.trip.proofs.CountsAddUp.{thirteen_kept, overlapping_kept}
-use Rattle.layout.specs.declared.Outcome.TheVariants.{Accepted}
+use Rattle.layout.specs.Outcomes.{Accepted}
 use Rattle.layout.specs.Words.{rows, Index}
 use Rattle.layout.specs.Answers.{matching, matches, question}
 use Rattle.layout.specs.Refusals.{window_tests, IndexOf}

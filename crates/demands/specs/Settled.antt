@@ -1,7 +1,7 @@
 -- "any two results allowed by it are proved the same": a contract says that a record made of the result and of every lent word equals what the input
 -- says. What it is that two such results are the same, part by part, for each form of that record.
 use Rattle.std.specs.Prelude.{◌≡◌, true, List, [], ℕ}
-use Rattle.layout.specs.declared.Outcome.{Outcome}
+use Rattle.layout.specs.Outcomes.{Outcome}
 use Rattle.layout.specs.Words.{Index}
 use Rattle.layout.specs.Calls.{After, after, Asked, asked}
 use Rattle.export.specs.declared.Said.{Said}

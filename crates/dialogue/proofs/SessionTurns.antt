@@ -1,6 +1,7 @@
 -- What a call left in the words lent, with what was written, is the turn of the definitions. The directory's front is lent to a call, as
 -- long as the ruler asks, and comes back in its place.
 -- Assumes nothing.
+use Rattle.std.proofs.Common.{Err, Ok}
 use mathlib.Core.Path.{◌≡◌, refl, ap, ◌∙◌}
 use mathlib.Core.Bool.{Bool, true, false, cond, ◌||◌}
 use mathlib.Core.List.{List, []}
@@ -15,21 +16,23 @@ use Rattle.lists.proofs.Lent.{head_lent, head_back}
 use Rattle.ruler.specs.declared.Numbers.{Numbers}
 use Rattle.ruler.specs.Ruler.{Scale, scale_of, bottom_of, numbers_of}
 use Rattle.trip.specs.declared.Asking.{Asking}
-use Rattle.layout.specs.declared.Outcome.{Outcome}
-use Rattle.layout.specs.declared.Outcome.TheVariants.{Accepted, Refused}
+use Rattle.trip.specs.Trips.{trip_of, asking_of}
+use Rattle.std.specs.Prelude.{Option, Some, None, is_some, IfSome}
+use Rattle.std.specs.Bool.{then_some}
+use Rattle.std.specs.Option.{option_map_or}
+use Rattle.layout.specs.Outcomes.{Outcome}
 use Rattle.layout.specs.Words.{partitions, directory_length, Index}
 use Rattle.layout.specs.Answers.{answer_to}
 use Rattle.lists.specs.Lists.{over}
 use Rattle.layout.specs.Refusals.{is_accepted, table_of, ask_outcome}
 use Rattle.layout.specs.Calls.{index, After, after, Asked, asked, build_of, ask_of, if_accepted}
 use Rattle.text.specs.declared.Command.{Command}
-use Rattle.text.specs.declared.Command.TheVariants.{Ruler, Add, Remove, Ask, Bad}
+use Rattle.text.specs.declared.Command.TheVariants.{Ruler, Add, Remove, Ask}
 use Rattle.text.specs.Command.{command_of, longest_line}
 use Rattle.text.proofs.Longest.{cut_line}
-use Rattle.dialogue.specs.declared.Desk.{Desk}
 use Rattle.dialogue.specs.declared.Turned.{Turned}
 use Rattle.dialogue.specs.Reply.{outcome_bytes, answer_bytes, Wrote}
-use Rattle.dialogue.specs.Session.{deepest_here, State, state, Turn, shown, written_back, bad_line, when_open, opened, edited, answered, turn_of, turned, Done}
+use Rattle.dialogue.specs.Session.{deepest_here, State, state, Turn, shown, written_back, bad_line, when_open, added, removed, questioned, opened, edited, answered, InSession, turn_of, turned, Done}
 
 -- a line that is cut where no line with a meaning goes on does and writes what the whole line does
 pub cut_turn : (s : State) (line : List ℕ) (k : ℕ) → longest_line < k → turn_of s (command_of (take k line)) ≡ turn_of s (command_of line)
@@ -45,7 +48,7 @@ in_front numbers d e deep whole =
     omega arith
 
 -- a D line that is not malformed names no deeper level
-pub not_deeper : (started : Bool) (m : ℕ) → (started || ltb deepest_here m) ≡ false → m ≤ deepest_here
+not_deeper : (started : Bool) (m : ℕ) → (started || ltb deepest_here m) ≡ false → m ≤ deepest_here
 not_deeper false m e = ltb-false deepest_here m e
 not_deeper true m e = let z : ◌≡◌ {A = ℕ} 0 1 = cc in omega arith
 
@@ -55,19 +58,18 @@ module _ (numbers : Numbers) (d o r : List ℕ) (n : ℕ) (long : n ≡ director
   unfolding shown
   lent = rw (head_lent d n, long)
 
-  pub answered_done : (desk : Desk) (list : List ℕ) {l' reply₀ reply : List ℕ} {outcome : Outcome} {count written : ℕ} (call : Index → Asked)
-      → asked outcome count l' ≡ call (index (mid_of 0 (n - 0) d) o r) → Wrote (answer_bytes outcome (mid_of 0 (count - 0) l')) reply₀ reply written
-      → Done (answered (state desk (index d o r) list) (call (shown numbers (index d o r)))) (turned desk written true) (index d o r) l' reply₀ reply
+  pub answered_done : (list : List ℕ) {l' reply₀ reply : List ℕ} {outcome : Outcome} {count written : ℕ} (call : Index → Asked)
+      → asked outcome count l' ≡ call (index (mid_of 0 (n - 0) d) o r) → Wrote (answer_bytes outcome (take count l')) reply₀ reply written
+      → Done (answered (state (Some numbers) (index d o r) list) (call (shown numbers (index d o r)))) (turned (Some numbers) written true) (index d o r) l' reply₀ reply
   unfolding answered
-  answered_done desk list {l'} {reply₀} {reply} {outcome} {count} call made wrote =
+  answered_done list {l'} {reply₀} {reply} {outcome} {count} call made wrote =
       let e : asked outcome count l' ≡ call (shown numbers (index d o r)) = made ∙ ap call lent in
-      let ids = head_lent l' count in
       record {
         next = rw (← e);
         goes = refl;
-        count = rw (← e, ← ids) wrote.0;
+        count = rw (← e) wrote.0;
         fits = wrote.2;
-        bytes = rw (← e, ← ids) wrote.1;
+        bytes = rw (← e) wrote.1;
       }
 
   module _ (deep : bottom_of numbers ≤ deepest_here) (whole : directory_length deepest_here ≤ length d) where
@@ -80,14 +82,14 @@ module _ (numbers : Numbers) (d o r : List ℕ) (n : ℕ) (long : n ≡ director
         let l : length d' ≡ n = omega (arith, kept, part) in
         rw (← e, head_back d n d', ← l)
 
-    pub opened_done : (desk : Desk) (l : List ℕ) {d' o' r' rows reply₀ reply : List ℕ} {outcome : Outcome} {accepted : Bool} {written : ℕ}
+    pub opened_done : (l : List ℕ) {d' o' r' rows reply₀ reply : List ℕ} {outcome : Outcome} {accepted : Bool} {written : ℕ}
         → after outcome (index d' o' r') ≡ build_of (scale_of numbers) rows (index (mid_of 0 (n - 0) d) o r) → rows ≡ []
         → length d' ≡ length (mid_of 0 (n - 0) d)
         → accepted ≡ is_accepted outcome → Wrote (outcome_bytes outcome) reply₀ reply written
-        → Done (opened (state desk (index d o r) l) numbers) (turned (record { started = accepted; numbers = numbers }) written accepted)
+        → Done (opened (state None (index d o r) l) numbers) (turned (then_some accepted numbers) written accepted)
         (index (put_mid 0 (n - 0) d d') o' r') l reply₀ reply
     unfolding opened
-    opened_done desk l {d'} {o'} {r'} {rows} {reply₀} {reply} {outcome} {accepted} made none kept good wrote =
+    opened_done l {d'} {o'} {r'} {rows} {reply₀} {reply} {outcome} {accepted} made none kept good wrote =
         let a : After = build_of (scale_of numbers) [] (shown numbers (index d o r)) in
         let e : after outcome (index d' o' r') ≡ a = made ∙ rw (none, lent) in
         let same : outcome ≡ a.outcome = ap (λ (x : After). x.outcome) e in
@@ -100,13 +102,13 @@ module _ (numbers : Numbers) (d o r : List ℕ) (n : ℕ) (long : n ≡ director
           bytes = rw (← same) wrote.1;
         }
 
-    pub edited_done : (desk : Desk) (l : List ℕ) {d' o' r' reply₀ reply : List ℕ} {outcome : Outcome} {written : ℕ} (call : Index → After)
+    pub edited_done : (l : List ℕ) {d' o' r' reply₀ reply : List ℕ} {outcome : Outcome} {written : ℕ} (call : Index → After)
         → after outcome (index d' o' r') ≡ call (index (mid_of 0 (n - 0) d) o r) → length d' ≡ length (mid_of 0 (n - 0) d)
         → Wrote (outcome_bytes outcome) reply₀ reply written
-        → Done (edited (state desk (index d o r) l) (call (shown numbers (index d o r)))) (turned desk written true)
+        → Done (edited (state (Some numbers) (index d o r) l) (call (shown numbers (index d o r)))) (turned (Some numbers) written true)
         (index (put_mid 0 (n - 0) d d') o' r') l reply₀ reply
     unfolding edited
-    edited_done desk l {d'} {o'} {r'} {reply₀} {reply} {outcome} call made kept wrote =
+    edited_done l {d'} {o'} {r'} {reply₀} {reply} {outcome} call made kept wrote =
         let a : After = call (shown numbers (index d o r)) in
         let e : after outcome (index d' o' r') ≡ a = made ∙ ap call lent in
         let same : outcome ≡ a.outcome = ap (λ (x : After). x.outcome) e in
@@ -128,43 +130,40 @@ count-within s x q list {l'} {outcome} {count} e kept =
     (ap (λ (a : Asked). a.count) e) (ap (λ (a : Asked). a.answers) e)
   where
     go : (q : Outcome) (ids : List ℕ) → count ≡ if_accepted q (length ids) 0 → l' ≡ if_accepted q (over ids list) list → count ≤ length l'
-    go Accepted ids counted written =
+    go (Ok _) ids counted written =
         let long = ap length written ∙ length-append ids (drop (length ids) list) in
         omega arith
-    go (Refused why detail) ids counted written = omega arith
+    go (Err r) ids counted written = omega arith
 
--- the turn of the case that holds
-module _ (b : Bool) (t u : Turn) {r : Turned} {x : Index} {answers reply₀ reply : List ℕ} where
-  pub done_then : b ≡ true → Done t r x answers reply₀ reply → Done (cond b t u) r x answers reply₀ reply
-  done_then e done = rw e done
-
-  pub done_else : b ≡ false → Done u r x answers reply₀ reply → Done (cond b t u) r x answers reply₀ reply
-  done_else e done = rw e done
-
--- a line that is only for an open session leaves the ruler as it was, if what it does then leaves it
-whenever : (s : State) (t : Turn) → bottom_of t.next.desk.numbers ≤ deepest_here → bottom_of s.desk.numbers ≤ deepest_here
-    → bottom_of (when_open s t).next.desk.numbers ≤ deepest_here
+-- a line that is only for an open session leaves its ruler
+whenever : (s : State) (turn : Numbers → Turn)
+    → ((n : Numbers) → s.desk ≡ Some n → (turn n).next.desk ≡ s.desk) → (when_open s turn).next.desk ≡ s.desk
 unfolding bad_line
-whenever s t k h = go s.desk.started
+whenever s turn kept = go s.desk refl
   where
-    go : (b : Bool) → bottom_of (cond b t (bad_line s)).next.desk.numbers ≤ deepest_here
-    go true = k
-    go false = h
+    go : (o : Option Numbers) → s.desk ≡ o → (option_map_or turn o (bad_line s)).next.desk ≡ s.desk
+    go None e = refl
+    go (Some n) e = kept n e
 
 -- every turn leaves a ruler of the session
-pub keeps : (s : State) (c : Command) → bottom_of s.desk.numbers ≤ deepest_here → bottom_of (turn_of s c).next.desk.numbers ≤ deepest_here
+pub keeps : (s : State) (c : Option Command) → IfSome s.desk InSession → IfSome (turn_of s c).next.desk InSession
 unfolding turn_of bad_line opened edited answered
-keeps s Bad h = h
-keeps s (Ruler w m) h = go (s.desk.started || ltb deepest_here m) refl
+keeps s None h = h
+keeps s (Some (Ruler w m)) h = go (is_some s.desk || ltb deepest_here m) refl
   where
-    go : (t : Bool) → (s.desk.started || ltb deepest_here m) ≡ t
-        → bottom_of (cond t (bad_line s) (opened s (numbers_of w m))).next.desk.numbers ≤ deepest_here
-    go true e = h
-    go false e = not_deeper s.desk.started m e
-keeps s (Add i st end days) h = whenever s _ h h
-keeps s (Remove i) h = whenever s _ h h
-keeps s (Ask c st end day) h = whenever s _ h h
+    named : (b : Bool) → m ≤ deepest_here → IfSome (then_some b (numbers_of w m)) InSession
+    named true k = k
+    named false k = tt
 
-pub done_keeps : (s : State) (c : Command) {r : Turned} {x : Index} {answers reply₀ reply : List ℕ} → Done (turn_of s c) r x answers reply₀ reply
-    → bottom_of s.desk.numbers ≤ deepest_here → bottom_of r.desk.numbers ≤ deepest_here
+    go : (t : Bool) → (is_some s.desk || ltb deepest_here m) ≡ t
+        → IfSome (cond t (bad_line s) (opened s (numbers_of w m))).next.desk InSession
+    go true e = h
+    go false e = named _ (not_deeper (is_some s.desk) m e)
+keeps s (Some (Add i st end days)) h = rw (whenever s (λ n. added s n (trip_of i st end days)) (λ n e. refl)) h
+keeps s (Some (Remove i)) h = rw (whenever s (λ n. removed s n i) (λ n e. refl)) h
+keeps s (Some (Ask c st end day)) h = rw (whenever s (λ n. questioned s n (asking_of c st end day)) (λ n e. refl)) h
+
+pub done_keeps : (s : State) (c : Option Command) {r : Turned} {x : Index} {answers reply₀ reply : List ℕ}
+    → Done (turn_of s c) r x answers reply₀ reply
+    → IfSome s.desk InSession → IfSome r.desk InSession
 done_keeps s c done h = rw (ap (λ (y : State). y.desk) done.next) (keeps s c h)

@@ -1,9 +1,8 @@
 -- Document 01, the session program: the bytes that it writes.
-use Rattle.std.specs.Prelude.{◌≡◌, List, [], ◌∷◌, ◌++◌, ℕ, ◌+◌, ◌≤◌, length}
+use Rattle.std.specs.Prelude.{◌≡◌, List, [], ◌∷◌, ◌++◌, ℕ, ◌+◌, ◌≤◌, length, Err, Ok}
 use Prim.Native.Char.{code}
 use Rattle.std.proofs.lemmas.List.Edits.{sets}
-use Rattle.layout.specs.declared.Outcome.{Outcome}
-use Rattle.layout.specs.declared.Outcome.TheVariants.{Accepted, Refused}
+use Rattle.layout.specs.Outcomes.{Outcome}
 use Rattle.layout.specs.Refusals.{refusal_number}
 use Rattle.text.specs.Bytes.{space, newline}
 use Rattle.text.specs.Number as number
@@ -21,8 +20,8 @@ unfoldable pub refused_bytes : List ℕ
 refused_bytes = code "r" ∷ code "e" ∷ code "f" ∷ code "u" ∷ code "s" ∷ code "e" ∷ code "d" ∷ []
 
 unfoldable pub outcome_bytes : Outcome → List ℕ
-outcome_bytes Accepted = ok_bytes
-outcome_bytes (Refused why detail) = refused_bytes ++ (space ∷ decimal (refusal_number why))
+outcome_bytes (Ok _) = ok_bytes
+outcome_bytes (Err r) = refused_bytes ++ (space ∷ decimal (refusal_number r.refusal))
 
 unfoldable pub id_bytes : List ℕ → List ℕ
 id_bytes [] = []
@@ -33,8 +32,8 @@ list_bytes ids = decimal (length ids) ++ id_bytes ids
 
 -- for a question: the count and the ids, or the refusal
 unfoldable pub answer_bytes : Outcome → (ids : List ℕ) → List ℕ
-answer_bytes Accepted ids = list_bytes ids
-answer_bytes (Refused why detail) ids = outcome_bytes (Refused why detail)
+answer_bytes (Ok _) ids = list_bytes ids
+answer_bytes (Err r) ids = outcome_bytes (Err r)
 
 -- "a malformed line writes "bad line""
 unfoldable pub bad_line_bytes : List ℕ

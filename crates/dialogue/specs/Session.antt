@@ -1,5 +1,7 @@
 -- Document 01, the session program: what a line does and what is written for it.
-use Rattle.std.specs.Prelude.{◌≡◌, Bool, true, false, cond, ◌||◌, List, [], ◌∷◌, ◌++◌, ℕ, ◌+◌, ◌*◌, ◌≤◌, ltb, length, take, replicate}
+use Rattle.std.specs.Prelude.{◌≡◌, Option, Some, None, is_some, Bool, true, false, cond, ◌||◌, List, [], ◌∷◌, ◌++◌, ℕ, ◌+◌, ◌*◌, ◌≤◌, ltb, length, take, replicate}
+use Rattle.std.specs.Bool.{then_some}
+use Rattle.std.specs.Option.{option_map_or}
 use Rattle.std.proofs.lemmas.List.Edits.{sets}
 use Rattle.ruler.specs.declared.Numbers.{Numbers}
 use Rattle.ruler.specs.Ruler.{scale_of, bottom_of, numbers_of}
@@ -11,10 +13,9 @@ use Rattle.lists.specs.Lists.{over}
 use Rattle.layout.specs.Refusals.{is_accepted}
 use Rattle.layout.specs.Calls.{index, After, Asked, build_of, add_of, remove_of, ask_of}
 use Rattle.text.specs.declared.Command.{Command}
-use Rattle.text.specs.declared.Command.TheVariants.{Ruler, Add, Remove, Ask, Bad}
+use Rattle.text.specs.declared.Command.TheVariants.{Ruler, Add, Remove, Ask}
 use Rattle.text.specs.Lines.{lines_of}
 use Rattle.text.specs.Command.{command_of}
-use Rattle.dialogue.specs.declared.Desk.{Desk}
 use Rattle.dialogue.specs.declared.Turned.{Turned}
 use Rattle.dialogue.specs.Reply.{most_digits, outcome_bytes, answer_bytes, bad_line_bytes, as_line, short_reply}
 
@@ -36,13 +37,13 @@ most_answers = 256
 abbrev pub most_reply : ℕ
 most_reply = short_reply + (most_digits + 1) * most_answers
 
--- all that the session keeps: whether a D line was accepted, the ruler that it named, the words lent to the index, and the answer list
+-- all that the session keeps: the ruler that an accepted D line named, the words lent to the index, and the answer list
 pub record State : Type 0 where
-  pub desk : Desk
+  pub desk : Option Numbers
   pub words : Index
   pub answers : List ℕ
 
-abbrev pub state : Desk → Index → (answers : List ℕ) → State
+abbrev pub state : Option Numbers → Index → (answers : List ℕ) → State
 state d x l = record { desk = d; words = x; answers = l }
 
 -- what a line does: the state after it, what is written, and whether the next line is read
@@ -68,7 +69,7 @@ unfoldable pub opened : State → Numbers → Turn
 opened s n =
     let a = build_of (scale_of n) [] (shown n s.words) in
     record {
-      next = state (record { started = is_accepted a.outcome; numbers = n }) (written_back a.words s.words) s.answers;
+      next = state (then_some (is_accepted a.outcome) n) (written_back a.words s.words) s.answers;
       writes = as_line (outcome_bytes a.outcome);
       goes_on = is_accepted a.outcome;
     }
@@ -91,26 +92,26 @@ answered s a = record {
 
 -- "T id st end to add, X id to remove, Q code st end", with T-07: "In the session T and Q take one number more, last"; each in the index of
 -- the session's ruler
-abbrev pub added : State → Trip → Turn
-added s t = edited s (add_of (scale_of s.desk.numbers) (shown s.desk.numbers s.words) t)
+abbrev pub added : State → Numbers → Trip → Turn
+added s n t = edited s (add_of (scale_of n) (shown n s.words) t)
 
-abbrev pub removed : State → (id : ℕ) → Turn
-removed s i = edited s (remove_of (scale_of s.desk.numbers) (shown s.desk.numbers s.words) i)
+abbrev pub removed : State → Numbers → (id : ℕ) → Turn
+removed s n i = edited s (remove_of (scale_of n) (shown n s.words) i)
 
-abbrev pub questioned : State → Asking → Turn
-questioned s q = answered s (ask_of (scale_of s.desk.numbers) (shown s.desk.numbers s.words) q s.answers)
+abbrev pub questioned : State → Numbers → Asking → Turn
+questioned s n q = answered s (ask_of (scale_of n) (shown n s.words) q s.answers)
 
 -- a line that is only for an open session: "a T, X or Q before D is malformed"
-abbrev pub when_open : State → Turn → Turn
-when_open s t = cond s.desk.started t (bad_line s)
+abbrev pub when_open : State → (Numbers → Turn) → Turn
+when_open s turn = option_map_or turn s.desk (bad_line s)
 
--- what a command does; "m above 8 is a malformed line", and so is "a second D"
-unfoldable pub turn_of : State → Command → Turn
-turn_of s Bad = bad_line s
-turn_of s (Ruler w m) = cond (s.desk.started || ltb deepest_here m) (bad_line s) (opened s (numbers_of w m))
-turn_of s (Add i st end days) = when_open s (added s (trip_of i st end days))
-turn_of s (Remove i) = when_open s (removed s i)
-turn_of s (Ask c st end day) = when_open s (questioned s (asking_of c st end day))
+-- what a line means does; "m above 8 is a malformed line", and so is "a second D"
+unfoldable pub turn_of : State → Option Command → Turn
+turn_of s None = bad_line s
+turn_of s (Some (Ruler w m)) = cond (is_some s.desk || ltb deepest_here m) (bad_line s) (opened s (numbers_of w m))
+turn_of s (Some (Add i st end days)) = when_open s (λ n. added s n (trip_of i st end days))
+turn_of s (Some (Remove i)) = when_open s (λ n. removed s n i)
+turn_of s (Some (Ask c st end day)) = when_open s (λ n. questioned s n (asking_of c st end day))
 
 -- The whole session: what is written for the lines, one after another, until one ends it.
 unfoldable pub writes_for : State → List (List ℕ) → List ℕ
@@ -120,14 +121,14 @@ writes_for s (line ∷ lines) = let t = turn_of s (command_of line) in t.writes 
 -- at the start: nothing is open, and all words lent are 0
 unfoldable pub start : State
 start =
-    state (record { started = false; numbers = numbers_of 0 0 })
+    state None
     (index (replicate (directory_length deepest_here) 0) (replicate (entry_words * most_originals) 0) (replicate (entry_words * most_replicas) 0))
     (replicate most_answers 0)
 
 unfoldable pub session_of : (input : List ℕ) → List ℕ
 session_of input = writes_for start (lines_of input)
 
-abbrev pub turned : Desk → (written : ℕ) → (more : Bool) → Turned
+abbrev pub turned : Option Numbers → (written : ℕ) → (more : Bool) → Turned
 turned d n b = record { desk = d; written = n; more = b }
 
 -- what a turn of the code left is what the turn t says, and all that is written has room
@@ -138,12 +139,15 @@ pub record Done (t : Turn) (r : Turned) (x : Index) (answers reply₀ reply : Li
   pub fits : r.written ≤ length reply₀
   pub bytes : reply ≡ sets reply₀ 0 t.writes
 
+-- a ruler whose deepest level a session may have
+abbrev pub InSession : Numbers → Type 0
+InSession n = bottom_of n ≤ deepest_here
+
 -- the words lent have room for a turn: the directory for every ruler of the session, and the reply for a line that lists no ids
-abbrev pub Room : Numbers → (directory reply : List ℕ) → Type 0
-Room n directory reply = (bottom_of n ≤ deepest_here) × (directory_length deepest_here ≤ length directory) × (short_reply ≤ length reply)
+abbrev pub Room : (directory reply : List ℕ) → Type 0
+Room directory reply = (directory_length deepest_here ≤ length directory) × (short_reply ≤ length reply)
 
 -- and for a question, the reply for every list of answers
-abbrev pub RoomToAnswer : Numbers → (directory answers reply : List ℕ) → Type 0
-RoomToAnswer n directory answers reply =
-    (bottom_of n ≤ deepest_here) × (directory_length deepest_here ≤ length directory) × (length answers ≤ most_answers)
-    × (most_reply ≤ length reply)
+abbrev pub RoomToAnswer : (directory answers reply : List ℕ) → Type 0
+RoomToAnswer directory answers reply =
+    (directory_length deepest_here ≤ length directory) × (length answers ≤ most_answers) × (most_reply ≤ length reply)

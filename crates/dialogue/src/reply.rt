@@ -1,22 +1,20 @@
 // The bytes that the session writes: words and numbers put into a reply one after another.
-ghost use Rattle.std.specs.Prelude.{◌+◌, ◌*◌, ◌^◌, ◌≤◌, ◌<◌, length};
+ghost use Rattle.std.specs.Prelude.{◌+◌, ◌*◌, ◌^◌, ◌≤◌, ◌<◌, length, take};
 ghost use Rattle.text.specs.Decimal.{decimal};
+ghost use Rattle.ask.specs.Told.{outcome_told, count_told};
 ghost use Rattle.dialogue.specs.Reply.{most_digits, short_reply, id_bytes, outcome_bytes, list_bytes, answer_bytes, bad_line_bytes, PutAt, Wrote};
 
-use layout::Outcome;
+use layout::Rejection;
 use text::MOST_DIGITS;
 
-// Puts bytes into the reply at a place, and says where the next go.
+// Puts bytes into the reply at a place, and says where the next go. A writer would say the same at each call: the place is all that it would hold.
 pub fn put(reply: &mut [u8], at: usize, bytes: &[u8]) -> usize
     requires { at + length bytes.now ≤ length reply.old }
     ensures { PutAt at bytes.now reply.old reply.new result }
 {
-    let mut i: usize = 0;
-    while i < bytes.len() {
-        reply[at + i] = bytes[i];
-        i += 1;
-    }
-    at + i
+    let end = at + bytes.len();
+    reply[at..end].copy_from_slice(bytes);
+    end
 }
 
 // Puts a number into the reply.
@@ -34,25 +32,23 @@ fn put_ids(reply: &mut [u8], at: usize, ids: &[u32]) -> usize
         × PutAt at (id_bytes ids.now) reply.old reply.new result }
 {
     let mut to = at;
-    let mut i: usize = 0;
-    while i < ids.len() {
+    for id in ids {
         reply[to] = b' ';
-        to = put_number(reply, to + 1, ids[i]);
-        i += 1;
+        to = put_number(reply, to + 1, *id);
     }
     to
 }
 
 // The line for an outcome.
-pub fn put_outcome(reply: &mut [u8], outcome: Outcome) -> usize
+pub fn put_outcome(reply: &mut [u8], outcome: Result<(), Rejection>) -> usize
     requires { short_reply ≤ length reply.old }
     ensures { Wrote (outcome_bytes outcome) reply.old reply.new result }
 {
     match outcome {
-        Outcome::Accepted => put(reply, 0, b"ok\n"),
-        Outcome::Refused { refusal, detail: _ } => {
+        Ok(()) => put(reply, 0, b"ok\n"),
+        Err(rejection) => {
             let word = put(reply, 0, b"refused ");
-            let number = put_number(reply, word, layout::refusal_number(refusal));
+            let number = put_number(reply, word, u32::from(rejection.refusal));
             put(reply, number, b"\n")
         }
     }
@@ -68,17 +64,15 @@ fn put_list(reply: &mut [u8], ids: &[u32]) -> usize
     put(reply, list, b"\n")
 }
 
-// The line for a question: its ids, or the refusal.
-pub fn put_answer(reply: &mut [u8], outcome: Outcome, ids: &[u32]) -> usize
-    requires { (short_reply + (most_digits + 1) * length ids.now ≤ length reply.old) × (length ids.now < 2 ^ 32) }
-    ensures { Wrote (answer_bytes outcome ids.now) reply.old reply.new result }
+// The line for a question: its ids, which are the first of the answer list, or the refusal.
+pub fn put_answer(reply: &mut [u8], answer: Result<u32, Rejection>, list: &[u32]) -> usize
+    requires listed { count_told answer ≤ length list.now }
+    requires room { (short_reply + (most_digits + 1) * count_told answer ≤ length reply.old) × (count_told answer < 2 ^ 32) }
+    ensures { Wrote (answer_bytes (outcome_told answer) (take (count_told answer) list.now)) reply.old reply.new result }
 {
-    match outcome {
-        Outcome::Accepted => put_list(reply, ids),
-        Outcome::Refused {
-            refusal: _,
-            detail: _,
-        } => put_outcome(reply, outcome),
+    match answer {
+        Ok(count) => put_list(reply, &list[..count as usize]),
+        Err(rejection) => put_outcome(reply, Err(rejection)),
     }
 }
 

@@ -1,17 +1,16 @@
-// A turn for each kind of line, and the turn of any line.
-ghost use Rattle.std.specs.Prelude.{◌≡◌, true, List, ℕ, ◌≤◌, length};
+// A turn for each kind of line, and the turn of any line. The words lent stay apart: a turn lends some on for writing and some for reading.
+ghost use Rattle.std.specs.Prelude.{◌≡◌, true, List, ℕ, ◌≤◌, length, IfSome};
 ghost use Rattle.layout.specs.Words.{directory_length, Index};
 ghost use Rattle.layout.specs.Calls.{index};
-ghost use Rattle.text.specs.declared.Command.TheVariants.{Ruler, Add, Remove, Ask};
 ghost use Rattle.text.specs.Command.{command_of};
 ghost use Rattle.dialogue.specs.Reply.{short_reply};
-ghost use Rattle.dialogue.specs.Session.{deepest_here, state, Done, bad_line, opened, added, removed, questioned, turn_of, turned, Room, RoomToAnswer};
+ghost use Rattle.dialogue.specs.Session.{state, Done, bad_line, opened, added, removed, questioned, turn_of, turned, InSession, Room, RoomToAnswer};
 ghost use Rattle.ruler.specs.Ruler.{deepest, bottom_of};
 
-use crate::{Desk, Turned, reply};
-use layout::is_accepted;
+use crate::{Turned, reply};
 use ruler::Numbers;
 use store::counting::directory_length;
+use store::words::Words;
 use text::Command;
 use trip::{Asking, Trip};
 
@@ -27,18 +26,18 @@ fn directory_words(numbers: Numbers) -> usize
 }
 
 // A turn after which the next line is read.
-fn goes_on(desk: Desk, written: usize) -> Turned
-    ensures { result ≡ turned desk written true }
+fn goes_on(numbers: Numbers, written: usize) -> Turned
+    ensures { result ≡ turned (Some numbers) written true }
 {
     Turned {
-        desk,
+        desk: Some(numbers),
         written,
         more: true,
     }
 }
 
 // A malformed line: nothing changes, and it is the last.
-fn bad_turn(desk: Desk, reply: &mut [u8]) -> Turned
+fn bad_turn(desk: Option<Numbers>, reply: &mut [u8]) -> Turned
     requires { short_reply ≤ length reply.old }
     ensures { (x : Index) (l : List ℕ) → Done (bad_line (state desk x l)) result x l reply.old reply.new }
 {
@@ -52,16 +51,15 @@ fn bad_turn(desk: Desk, reply: &mut [u8]) -> Turned
 
 // A D line: the index of an empty table.
 fn open_turn(
-    desk: Desk,
     numbers: Numbers,
     directory: &mut [u32],
     originals: &mut [u32],
     replicas: &mut [u32],
     reply: &mut [u8],
 ) -> Turned
-    requires { Room numbers directory.old reply.old }
+    requires { InSession numbers × Room directory.old reply.old }
     ensures { (l : List ℕ) → Done
-        (opened (state desk (index directory.old originals.old replicas.old) l) numbers) result
+        (opened (state None (index directory.old originals.old replicas.old) l) numbers) result
         (index directory.new originals.new replicas.new) l
         reply.old reply.new }
 {
@@ -75,64 +73,60 @@ fn open_turn(
         replicas,
     );
     let written = reply::put_outcome(reply, outcome);
-    let accepted = is_accepted(outcome);
+    let accepted = outcome.is_ok();
     Turned {
-        desk: Desk {
-            started: accepted,
-            numbers,
-        },
+        desk: accepted.then_some(numbers),
         written,
         more: accepted,
     }
 }
 
 // A T line.
+// A turn for each edit: one for both would take its call as a closure that changes words, of which a proof knows nothing.
 fn add_turn(
-    desk: Desk,
+    numbers: Numbers,
     t: Trip,
     directory: &mut [u32],
     originals: &mut [u32],
     replicas: &mut [u32],
     reply: &mut [u8],
 ) -> Turned
-    requires { Room desk.numbers directory.old reply.old }
+    requires { InSession numbers × Room directory.old reply.old }
     ensures { (l : List ℕ) → Done
-        (added (state desk (index directory.old originals.old replicas.old) l) t) result
+        (added (state (Some numbers) (index directory.old originals.old replicas.old) l) numbers t) result
         (index directory.new originals.new replicas.new) l
         reply.old reply.new }
 {
-    let numbers = desk.numbers;
     let n = directory_words(numbers);
     let outcome = edit::add(numbers, &mut directory[0..n], originals, replicas, t);
     let written = reply::put_outcome(reply, outcome);
-    goes_on(desk, written)
+    goes_on(numbers, written)
 }
 
 // An X line.
 fn remove_turn(
-    desk: Desk,
+    numbers: Numbers,
     id: u32,
     directory: &mut [u32],
     originals: &mut [u32],
     replicas: &mut [u32],
     reply: &mut [u8],
 ) -> Turned
-    requires { Room desk.numbers directory.old reply.old }
+    requires { InSession numbers × Room directory.old reply.old }
     ensures { (l : List ℕ) → Done
-        (removed (state desk (index directory.old originals.old replicas.old) l) id) result
+        (removed (state (Some numbers) (index directory.old originals.old replicas.old) l) numbers id) result
         (index directory.new originals.new replicas.new) l
         reply.old reply.new }
 {
-    let numbers = desk.numbers;
     let n = directory_words(numbers);
     let outcome = edit::remove(numbers, &mut directory[0..n], originals, replicas, id);
     let written = reply::put_outcome(reply, outcome);
-    goes_on(desk, written)
+    goes_on(numbers, written)
 }
 
 // A Q line.
 fn ask_turn<'a>(
-    desk: Desk,
+    numbers: Numbers,
     asking: Asking,
     directory: &[u32],
     originals: &'a [u32],
@@ -140,128 +134,28 @@ fn ask_turn<'a>(
     answers: &mut [u32],
     reply: &mut [u8],
 ) -> Turned
-    requires { RoomToAnswer desk.numbers directory.now answers.old reply.old }
+    requires { InSession numbers × RoomToAnswer directory.now answers.old reply.old }
     ensures { Done
-        (questioned (state desk (index directory.now originals.now replicas.now) answers.old)
+        (questioned (state (Some numbers) (index directory.now originals.now replicas.now) answers.old) numbers
         asking) result
         (index directory.now originals.now replicas.now) answers.new
         reply.old reply.new }
 {
-    let numbers = desk.numbers;
     let n = directory_words(numbers);
-    let asked = ask::ask(
-        numbers,
-        &directory[0..n],
+    let words = Words {
+        directory: &directory[0..n],
         originals,
         replicas,
-        asking,
-        answers,
-    );
-    let outcome = asked.outcome;
-    let count = asked.count as usize;
-    let written = reply::put_answer(reply, outcome, &answers[0..count]);
-    goes_on(desk, written)
+    };
+    let answer = ask::ask(numbers, words, asking, answers);
+    let written = reply::put_answer(reply, answer, answers);
+    goes_on(numbers, written)
 }
 
-// A D line, which is the first: a second one is malformed, and so is one with too deep a level.
-fn open_line(
-    desk: Desk,
-    w: u32,
-    m: u32,
-    directory: &mut [u32],
-    originals: &mut [u32],
-    replicas: &mut [u32],
-    reply: &mut [u8],
-) -> Turned
-    requires { (directory_length deepest_here ≤ length directory.old) × (short_reply ≤ length reply.old) }
-    ensures { (l : List ℕ) → Done
-        (turn_of (state desk (index directory.old originals.old replicas.old) l) (Ruler w m)) result
-        (index directory.new originals.new replicas.new) l
-        reply.old reply.new }
-{
-    if desk.started | (DEEPEST_HERE < m) {
-        return bad_turn(desk, reply);
-    }
-    let numbers = Numbers::Bits { w, m };
-    open_turn(desk, numbers, directory, originals, replicas, reply)
-}
-
-// A T line, after a D line.
-fn add_line(
-    desk: Desk,
-    id: u32,
-    start: u32,
-    end: u32,
-    days: u32,
-    directory: &mut [u32],
-    originals: &mut [u32],
-    replicas: &mut [u32],
-    reply: &mut [u8],
-) -> Turned
-    requires { Room desk.numbers directory.old reply.old }
-    ensures { (l : List ℕ) → Done
-        (turn_of (state desk (index directory.old originals.old replicas.old) l) (Add id start end days)) result
-        (index directory.new originals.new replicas.new) l
-        reply.old reply.new }
-{
-    if !desk.started {
-        return bad_turn(desk, reply);
-    }
-    let t = Trip::of(id, start, end, days);
-    add_turn(desk, t, directory, originals, replicas, reply)
-}
-
-// An X line, after a D line.
-fn remove_line(
-    desk: Desk,
-    id: u32,
-    directory: &mut [u32],
-    originals: &mut [u32],
-    replicas: &mut [u32],
-    reply: &mut [u8],
-) -> Turned
-    requires { Room desk.numbers directory.old reply.old }
-    ensures { (l : List ℕ) → Done
-        (turn_of (state desk (index directory.old originals.old replicas.old) l) (Remove id)) result
-        (index directory.new originals.new replicas.new) l
-        reply.old reply.new }
-{
-    if !desk.started {
-        return bad_turn(desk, reply);
-    }
-    remove_turn(desk, id, directory, originals, replicas, reply)
-}
-
-// A Q line, after a D line.
-fn ask_line<'a>(
-    desk: Desk,
-    code: u32,
-    start: u32,
-    end: u32,
-    day: u32,
-    directory: &[u32],
-    originals: &'a [u32],
-    replicas: &'a [u32],
-    answers: &mut [u32],
-    reply: &mut [u8],
-) -> Turned
-    requires { RoomToAnswer desk.numbers directory.now answers.old reply.old }
-    ensures { Done
-        (turn_of (state desk (index directory.now originals.now replicas.now) answers.old)
-        (Ask code start end day)) result
-        (index directory.now originals.now replicas.now) answers.new
-        reply.old reply.new }
-{
-    if !desk.started {
-        return bad_turn(desk, reply);
-    }
-    let asking = Asking::of(code, start, end, day);
-    ask_turn(desk, asking, directory, originals, replicas, answers, reply)
-}
-
-// The turn of a line, given without its newline.
+// The turn of a line, given without its newline. Only the first line may be a D line, whose level is not too deep, and only after it
+// come the others.
 pub fn turn(
-    desk: Desk,
+    desk: Option<Numbers>,
     line: &[u8],
     directory: &mut [u32],
     originals: &mut [u32],
@@ -269,35 +163,50 @@ pub fn turn(
     answers: &mut [u32],
     reply: &mut [u8],
 ) -> Turned
-    requires { RoomToAnswer desk.numbers directory.old answers.old reply.old }
+    requires { IfSome desk InSession × RoomToAnswer directory.old answers.old reply.old }
     ensures { Done
         (turn_of (state desk (index directory.old originals.old replicas.old) answers.old)
         (command_of line.now)) result
         (index directory.new originals.new replicas.new) answers.new
         reply.old reply.new }
 {
-    let command = text::command_of(line);
-    match command {
-        Command::Bad => bad_turn(desk, reply),
-        Command::Ruler { w, m } => { open_line(desk, w, m, directory, originals, replicas, reply) }
-        Command::Add {
-            id,
-            start,
-            end,
-            days,
-        } => {
-            add_line(
-                desk, id, start, end, days, directory, originals, replicas, reply,
+    let Some(command) = text::command_of(line) else {
+        return bad_turn(desk, reply);
+    };
+    match (command, desk) {
+        (Command::Ruler { w, m }, None) if m <= DEEPEST_HERE => {
+            let numbers = Numbers::Bits { w, m };
+            open_turn(numbers, directory, originals, replicas, reply)
+        }
+        (
+            Command::Add {
+                id,
+                start,
+                end,
+                days,
+            },
+            Some(numbers),
+        ) => {
+            let t = Trip::of(id, start, end, days);
+            add_turn(numbers, t, directory, originals, replicas, reply)
+        }
+        (Command::Remove { id }, Some(numbers)) => {
+            remove_turn(numbers, id, directory, originals, replicas, reply)
+        }
+        (
+            Command::Ask {
+                code,
+                start,
+                end,
+                day,
+            },
+            Some(numbers),
+        ) => {
+            let asking = Asking::of(code, start, end, day);
+            ask_turn(
+                numbers, asking, directory, originals, replicas, answers, reply,
             )
         }
-        Command::Remove { id } => { remove_line(desk, id, directory, originals, replicas, reply) }
-        Command::Ask {
-            code,
-            start,
-            end,
-            day,
-        } => ask_line(
-            desk, code, start, end, day, directory, originals, replicas, answers, reply,
-        ),
+        _ => bad_turn(desk, reply),
     }
 }

@@ -1,17 +1,18 @@
 -- An addition, slot after slot: one half of an index, from its words to those with the trip.
-use mathlib.Core.Path.{◌≡◌, sym, ap, subst, ◌∙◌}
+use mathlib.Core.Path.{◌≡◌, sym, ap, ◌∙◌}
 use mathlib.Core.Bool.{true}
 use mathlib.Core.List.{List, [], ◌∷◌}
-use Prim.Native.Nat.{ℕ, zero, suc, ◌+◌, ◌*◌, ◌≤◌, ◌<◌}
+use Prim.Native.Nat.{ℕ, zero, suc, ◌+◌, ◌*◌, ◌^◌, ◌≤◌, ◌<◌}
 use native.Mathlib.Nat.{le_of_suc-le-suc, not-suc-le-zero}
 use native.Mathlib.Omega.{arith}
 use lib.ListN.{length, get_or, set, take, drop, length-append, take-append-drop}
 use Rattle.lists.proofs.Upto.{length-up_to}
-use Rattle.ruler.specs.Ruler.{Scale}
+use Rattle.ruler.specs.Ruler.{Scale, deepest}
 use Rattle.trip.specs.declared.Trip.{Trip}
 use Rattle.layout.specs.declared.Half.{Half}
 use Rattle.layout.specs.Words.{partitions, slot, entries_before, entries, Index, subdivision_at}
-use Rattle.layout.specs.Refusals.{table_of}
+use Rattle.layout.specs.Outcomes.{Accepted}
+use Rattle.layout.specs.Refusals.{table_of, add_outcome, Fits}
 use Rattle.store.specs.TripWalk.{slots_of_trip}
 use Rattle.layout.proofs.Rows.{words_le, words-add}
 use Rattle.layout.proofs.EditsBuild.{Addable, of_add, added-table}
@@ -24,9 +25,10 @@ use Rattle.store.specs.Ordered.{preceding}
 use Rattle.store.proofs.LayoutHeld.{flat-up_to}
 use Rattle.store.proofs.Found.{insert_place}
 use Rattle.edit.specs.SlotFound.{place_in, Vacant}
-use Rattle.edit.specs.HalfEdited.{HalfOf, Adding}
+use Rattle.edit.specs.HalfEdited.{HalfOf}
+use Rattle.edit.specs.SlotSteps.{slots_after, Passing, Steps}
 use Rattle.edit.proofs.Halfway.{Spots, halfway_turn, halfway_most}
-use Rattle.edit.proofs.Between.{room_in, Passing, slots_after, spots, start, long, inside, unchanged, belongs, orderly, end}
+use Rattle.edit.proofs.Between.{room_in, spots, long, inside, unchanged, belongs, orderly}
 
 -- ---- one entry more
 
@@ -42,6 +44,14 @@ flat-more (suc k) (l ∷ ls) x h e = rw (length-append, length-append) (omega (a
 
 -- ---- the slots of the half
 
+-- the half's words in x, to which the trip can be added; the scale is no deeper than a ruler's, and the trip fits it
+pub record Adding (s : Scale) (half : Half) (x : Index) (t : Trip) (dir arena : List ℕ) : Type 0 where
+  pub deep : s.m ≤ deepest
+  pub accepted : add_outcome s x t ≡ Accepted
+  pub fits : Fits s t
+  pub end_in : s.cell t.end < 2 ^ s.m
+  pub words_are : HalfOf s half (table_of s x) x dir arena
+
 module _ (s : Scale) (half : Half) (x : Index) (t : Trip) (dir arena : List ℕ) (a : Adding s half x t dir arena) where
   -- the slots after the first j of the trip's
   abbrev pub grown_slots : (j : ℕ) → List (List Trip)
@@ -53,15 +63,13 @@ module _ (s : Scale) (half : Half) (x : Index) (t : Trip) (dir arena : List ℕ)
   passing : Passing s half x t (t ∷ table_of s x) dir arena
   passing = record {
     is-index = facts.is-index;
+    fits = a.fits;
     end_in = a.end_in;
     words_are = a.words_are;
     others = λ k e. slot-same-added s half t (table_of s x) k e;
   }
 
-  pub grown_start : Holds dir arena (grown_slots 0)
-  grown_start = start s half x t (t ∷ table_of s x) dir arena passing
-
-  module _ (D A : List ℕ) (j : ℕ) (h : j < length (slots_of_trip s half t)) (size : length A ≡ length arena) (w : Holds D A (grown_slots j)) where
+  module _ (j : ℕ) (h : j < length (slots_of_trip s half t)) where
     spot : ℕ
     spot = get_or (slots_of_trip s half t) j 0
 
@@ -107,8 +115,9 @@ module _ (s : Scale) (half : Half) (x : Index) (t : Trip) (dir arena : List ℕ)
               (2 * partitions s.m)),
         )
 
-    vacant : Vacant D A (grown_slots j) half (get_or (slots_of_trip s half t) j 0)
-    vacant = record {
+    vacant : (D A : List ℕ) → length A ≡ length arena → Holds D A (grown_slots j)
+        → Vacant D A (grown_slots j) half (get_or (slots_of_trip s half t) j 0)
+    vacant D A size w = record {
       orderly = orderly s half x t (t ∷ table_of s x) dir arena passing j h D A w;
       room =
           let all = room_in s half (t ∷ table_of s x) x facts.room in
@@ -117,28 +126,13 @@ module _ (s : Scale) (half : Half) (x : Index) (t : Trip) (dir arena : List ℕ)
       few = omega (arith, one_more, entries_most s a.deep (t ∷ table_of s x) (added-table s x t facts).few half);
     }
 
-    turn : (D' A' : List ℕ) → Holds D' A' (inserted_in (get_or (slots_of_trip s half t) j 0) (place_in half (get_or (slots_of_trip s half t) j 0) t
-        (grown_slots j)) t (grown_slots j))
-        → Holds D' A' (grown_slots (j + 1))
-    unfolding spot
-    turn D' A' v = subst (Holds D' A') here_put v
-
-  -- ---- the loop over the trip's slots
-
-  module _ (cs : List ℕ) (e : cs ≡ slots_of_trip s half t) (D A : List ℕ) (j : ℕ) (size : length A ≡ length arena) (w : Holds D A (grown_slots j)) where
-    -- slot j has room for the trip
-    pub grown_room : j < length cs → Vacant D A (grown_slots j) half (get_or cs j 0)
-    grown_room h = rw e (vacant D A j (subst (λ (l : List ℕ). j < length l) e h) size w)
-
-    -- and with the trip in it the next slot's turn comes
-    pub grown_turn : j < length cs → (D' A' : List ℕ)
-        → ((ls : List (List Trip)) → Vacant D A ls half (get_or cs j 0) → Holds D' A' (inserted_in (get_or cs j 0) (place_in half (get_or cs j 0) t ls) t ls))
-        → Holds D' A' (grown_slots (j + 1))
-    grown_turn h D' A' f =
-        turn D A j (subst (λ (l : List ℕ). j < length l) e h) size w D' A'
-        (subst (λ (l : List ℕ). Holds D' A' (inserted_in (get_or l j 0) (place_in half (get_or l j 0) t (grown_slots j)) t (grown_slots j))) e (f
-        (grown_slots j) (grown_room h)))
-
-    -- after the last slot the words are those of the table with the trip
-    pub grown_end : j ≡ length cs → HalfOf s half (t ∷ table_of s x) x D A
-    grown_end q = end s half x t (t ∷ table_of s x) dir arena passing cs e D A j size w q
+-- an addition is made step by step
+pub adds : (s : Scale) (half : Half) (x : Index) (t : Trip) (dir arena : List ℕ) → Adding s half x t dir arena
+    → Steps (λ dir arena ls half slot t. Vacant dir arena ls half slot) (λ half slot t ls. inserted_in slot (place_in half slot t ls) t ls)
+    s x t (t ∷ table_of s x) half dir arena
+unfolding spot
+adds s half x t dir arena a = record {
+  passing = passing s half x t dir arena a;
+  readied = λ D A j h. vacant s half x t dir arena a j h D A;
+  turned = here_put s half x t dir arena a;
+}

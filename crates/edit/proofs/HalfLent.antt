@@ -1,64 +1,57 @@
--- An edit that is accepted, as what its halves ask: the index, and the cells of the trip's times. Each half is lent as the index has it;
--- both, come back, are the whole index again.
+-- An edit that is accepted can be made: the index, and the cells of the trip's times.
 use mathlib.Core.Path.{◌≡◌}
-use mathlib.Core.List.{List, Memᴰ as Mem}
-use Prim.Native.Nat.{ℕ, ◌+◌, ◌-◌}
-use lib.ListN.{length}
-use borrow.Rule.Slice.PartMut.{put_mid}
+use mathlib.Core.List.{List, ◌∷◌, Memᴰ as Mem}
+use Prim.Native.Nat.{ℕ}
+use lib.ListN.{take, drop}
 use Rattle.ruler.specs.declared.Ruler.{Ruler}
-use Rattle.ruler.specs.Ruler.{Scale, Made, scale}
+use Rattle.ruler.specs.Ruler.{Scale}
+use Rattle.ruler.specs.Made.{scale}
 use Rattle.trip.specs.declared.Trip.{Trip}
 use Rattle.layout.specs.declared.Half.{Half}
 use Rattle.layout.specs.declared.Half.TheVariants.{Originals, Replicas}
-use Rattle.layout.specs.declared.Outcome.TheVariants.{Accepted}
-use Rattle.layout.specs.Words.{half_length, Index, lengths_of, layout}
+use Rattle.layout.specs.Outcomes.{Accepted}
+use Rattle.layout.specs.Words.{half_length, Index}
 use Rattle.layout.specs.Refusals.{table_of, add_outcome, remove_outcome}
-use Rattle.layout.specs.Calls.{index}
-use Rattle.layout.proofs.Indexes.{Indexed}
-use Rattle.layout.proofs.ByDirectory.{directory_long}
 use Rattle.layout.proofs.EditsBuild.{of_add, of_remove}
 use Rattle.layout.proofs.RulerCells.{deep-ruler, last_cell_lem}
-use Rattle.store.proofs.Halves.{two_halves}
-use Rattle.edit.specs.HalfEdited.{HalfOf, Adding, Removing}
-use Rattle.edit.proofs.IndexRead.{first_half, first_back, second_half, first_of_lem, second_of, both_of}
+use Rattle.layout.specs.Calls.{without}
+use Rattle.store.specs.Slots.{inserted_in, removed_in}
+use Rattle.edit.specs.SlotFound.{place_in, Vacant, Present}
+use Rattle.edit.proofs.IndexRead.{first_of_lem, second_of}
+use Rattle.edit.proofs.Grown.{adds}
+use Rattle.edit.proofs.Shrunk.{removes}
+use Rattle.edit.specs.SlotSteps.{Steps, Editable}
 
--- an edit of the index x: its words, as the halves of x, are what the edit of a half asks (Asks)
-pub record Edit (s : Scale) (x : Index) (Asks : Half → (dir arena : List ℕ) → Type 0) : Type 0 where
-  pub is-index : Indexed s x
-  pub ready : (half : Half) (dir arena : List ℕ) → HalfOf s half (table_of s x) x dir arena → Asks half dir arena
-
-pub adding : (r : Ruler) → Made r → (x : Index) (t : Trip) → add_outcome (scale r) x t ≡ Accepted
-    → Edit (scale r) x (λ half dir arena. Adding (scale r) half x t dir arena)
-adding r good x t a =
+pub adding : (r : Ruler) (x : Index) (t : Trip) → add_outcome (scale r) x t ≡ Accepted
+    → Editable (λ dir arena ls half slot t. Vacant dir arena ls half slot) (λ half slot t ls. inserted_in slot (place_in half slot t ls) t ls)
+    (scale r) x t (t ∷ table_of (scale r) x)
+adding r x t a =
     let e = of_add (scale r) x t a in
     let f = e.row_ok.fits in
     record {
       is-index = e.is-index;
-      ready = λ half dir arena w. record { deep = deep-ruler r good; accepted = a; fits = f; end_in = last_cell_lem r good t f; words_are = w };
+      steps = λ half dir arena w. adds (scale r) half x t dir arena
+          (record { deep = deep-ruler r; accepted = a; fits = f; end_in = last_cell_lem r t f; words_are = w });
     }
 
-pub removing : (r : Ruler) → Made r → (x : Index) (t : Trip) → remove_outcome (scale r) x t.id ≡ Accepted
-    → Mem t (table_of (scale r) x) → Edit (scale r) x (λ half dir arena. Removing (scale r) half x t dir arena)
-removing r good x t a m =
+pub removing : (r : Ruler) (x : Index) (t : Trip) → remove_outcome (scale r) x t.id ≡ Accepted → Mem t (table_of (scale r) x)
+    → Editable (λ dir arena ls half slot t. Present dir arena ls half slot t) (λ half slot t ls. removed_in slot (place_in half slot t ls) ls)
+    (scale r) x t (without t.id (table_of (scale r) x))
+removing r x t a m =
     let e = (of_remove (scale r) x t.id a).is-index in
     let f = e.table.rows_ok.fits t m in
     record {
       is-index = e;
-      ready = λ half dir arena w. record { accepted = a; fits = f; end_in = last_cell_lem r good t f; present = m; words_are = w };
+      steps = λ half dir arena w. removes (scale r) half x t dir arena
+          (record { accepted = a; fits = f; end_in = last_cell_lem r t f; present = m; words_are = w });
     }
 
-module _ (s : Scale) (x : Index) (Asks : Half → (dir arena : List ℕ) → Type 0) (e : Edit s x Asks) {half : ℕ} (cut : half ≡ half_length s.m) where
-  pub two_parts : length x.directory ≡ half + half
-  two_parts = two_halves s.m (directory_long s x e.is-index) cut
+-- the two parts of the directory, as the edits of both halves begin with them
+module _ {ready : (dir arena : List ℕ) → List (List Trip) → Half → (slot : ℕ) → Trip → Type 0}
+    {changed : Half → (slot : ℕ) → Trip → List (List Trip) → List (List Trip)} {s : Scale} {x : Index} {t : Trip} {ts : List Trip}
+    (e : Editable ready changed s x t ts) {half : ℕ} (cut : half ≡ half_length s.m) where
+  pub first_steps : {dir : List ℕ} → dir ≡ take half x.directory → Steps ready changed s x t ts Originals dir x.originals
+  first_steps q = rw q (e.steps _ _ _ (first_of_lem s x e.is-index cut))
 
-  pub first_lent : Asks Originals (first_half half x) x.originals
-  first_lent = e.ready _ _ _ (first_of_lem s x e.is-index cut)
-
-  module _ {ts : List Trip} {f o : List ℕ} (done : Asks Originals (first_half half x) x.originals → HalfOf s Originals ts x f o) where
-    pub second_lent : Asks Replicas (second_half half x f) x.replicas
-    second_lent = e.ready _ _ _ (second_of s x e.is-index cut _ _ _ (done first_lent))
-
-    pub both_back : {g r : List ℕ} → (Asks Replicas (second_half half x f) x.replicas → HalfOf s Replicas ts x g r)
-        → index (put_mid half (length x.directory - half) (first_back half x f) g) o r
-        ≡ layout s ts (lengths_of x)
-    both_back last = both_of s x e.is-index cut _ _ _ (done first_lent) _ _ (last second_lent)
+  pub second_steps : {dir : List ℕ} → dir ≡ drop half x.directory → Steps ready changed s x t ts Replicas dir x.replicas
+  second_steps q = rw q (e.steps _ _ _ (second_of s x e.is-index cut))

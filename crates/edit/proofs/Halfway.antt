@@ -17,13 +17,10 @@ use Rattle.trip.specs.declared.Trip.{Trip}
 use Rattle.store.proofs.TripWalk.{those}
 use Rattle.store.specs.TripWalk.{Below, none, also}
 use Rattle.store.specs.Slots.{flat}
+use Rattle.edit.specs.SlotSteps.{among, halfway}
 use Rattle.store.proofs.LayoutHeld.{flat-up_to, changed_slot}
 
 -- ---- which slots are among some spots
-
-pub among : (k : ℕ) → List ℕ → Bool
-among k [] = false
-among k (c ∷ l) = eqb c k || among k l
 
 among-append : (k : ℕ) (l m : List ℕ) → among k (l ++ m) ≡ among k l || among k m
 unfolding among
@@ -91,10 +88,6 @@ pub record Spots (f g : ℕ → List Trip) (n : ℕ) (cs : List ℕ) : Type 0 wh
   pub below : Below n cs
   pub once : (k : ℕ) → k < n → length (those k cs) ≤ 1
   pub others : (k : ℕ) → k < n → among k cs ≡ false → g k ≡ f k
-
--- the slots after the first j spots
-pub halfway : (f g : ℕ → List Trip) → (cs : List ℕ) → (j k : ℕ) → List Trip
-halfway f g cs j k = cond (among k (take j cs)) (g k) (f k)
 
 pub spot_among : (cs : List ℕ) (j : ℕ) → j < length cs → among (get_or cs j 0) cs ≡ true
 spot_among cs j h = ap (among (get_or cs j 0)) (split_at cs j 0 h) ∙ among-here (get_or cs j 0) (take j cs) (drop (suc j) cs)

@@ -9,15 +9,19 @@ use native.Mathlib.Omega.{arith}
 use lib.Dec.{ltb, eqb}
 use lib.ListN.{length, get_or, take, drop, replicate}
 use lib.Seq.{take_at, drop_at, drop-length, drop-cons}
-use borrow.Rule.Slice.PartMut.{put_mid}
 use borrow.Author.Tests.{eqb-true, lt-ltb, le-ltb}
 use Rattle.lists.specs.Lists.{padded}
+use Rattle.ruler.specs.declared.Ruler.{Ruler}
 use Rattle.ruler.specs.Ruler.{Scale, deepest, most_trips}
+use Rattle.ruler.specs.Made.{scale}
 use Rattle.trip.specs.declared.Trip.{Trip}
 use Rattle.layout.specs.declared.Half.TheVariants.{Originals, Replicas}
 use Rattle.layout.specs.Words.{entry_words, trip_at, words, rows, partitions, half_length, directory_length, entries, directory_half, Index, lengths_of, layout}
 use Rattle.layout.specs.Words as laid
-use Rattle.layout.specs.Refusals.{has_id, table_of}
+use Rattle.layout.specs.Outcomes.{Accepted}
+use Rattle.layout.specs.Refusals.{has_id, table_of, check_outcome}
+use Rattle.layout.proofs.Checked.{checked}
+use Rattle.layout.proofs.RulerCells.{deep-ruler}
 use Rattle.layout.specs.Calls.{index}
 use Rattle.layout.proofs.Rows.{words-length, rows_words, get_or_rows}
 use Rattle.layout.proofs.Indexes.{Indexed, directory_half-length, table_of_layout}
@@ -26,8 +30,10 @@ use Rattle.layout.proofs.MostEntries.{entries_most}
 use Rattle.store.specs.Passes.{most_entries}
 use Rattle.store.specs.Halves.{total}
 use Rattle.store.specs.Ordered.{no_trip}
-use Rattle.store.proofs.Halves.{total_at, two_halves, first_lent, second_next, both_back}
-use Rattle.edit.specs.Search.{place_of_id}
+use Rattle.store.proofs.Halves.{total_at, two_halves}
+use Rattle.std.specs.Prelude.{Option, Some, None}
+use Rattle.std.specs.Option.{is_some}
+use Rattle.edit.specs.Search.{place_of_id, IsPlaceOf}
 use Rattle.edit.specs.HalfEdited.{HalfOf}
 
 -- ---- the trip of an id
@@ -48,6 +54,10 @@ has_place i (t ∷ ts) = go (eqb t.id i) (has_place i ts)
     go : (b : Bool) → has_id i ts ≡ ltb (place_of_id i ts) (length ts) → b || has_id i ts ≡ ltb (cond b 0 (suc (place_of_id i ts))) (suc (length ts))
     go true e = sym (lt-ltb 0 (suc (length ts)) (omega arith))
     go false e = e ∙ next_too (place_of_id i ts) (length ts)
+
+pub found-taken : (i : ℕ) (ts : List Trip) (r : Option ℕ) → IsPlaceOf i ts r → is_some r ≡ has_id i ts
+found-taken i ts None h = sym (has_place i ts ∙ le-ltb _ _ h)
+found-taken i ts (Some k) h = sym (has_place i ts ∙ lt-ltb _ _ (omega (arith, h.0, h.1)))
 
 -- and the trip there has it
 pub place_id : (i : ℕ) (ts : List Trip) → place_of_id i ts < length ts → (get_or ts (place_of_id i ts) no_trip).id ≡ i
@@ -91,7 +101,8 @@ search_end i k ts e w =
 -- ---- what an index shows
 
 pub record Shown (s : Scale) (x : Index) : Type 0 where
-  pub size : length x.directory ≡ directory_length s.m
+  pub word_in : 2 * partitions s.m < length x.directory
+  pub some_word : 0 < length x.directory
   pub trips : get_or x.directory (2 * partitions s.m) 0 ≡ length (table_of s x)
   pub copies : total x.directory ≡ length (entries s Replicas (table_of s x))
   pub firsts : length (entries s Originals (table_of s x)) ≡ length (table_of s x)
@@ -100,15 +111,13 @@ pub record Shown (s : Scale) (x : Index) : Type 0 where
   pub few : length (table_of s x) ≤ most_trips
   pub few_copies : length (entries s Replicas (table_of s x)) ≤ most_entries
 
--- the directory's first half as it is lent, of `half` words; the directory with f come back for it; and then its second half
-abbrev pub first_half : (half : ℕ) → Index → List ℕ
-first_half half x = take (half - 0) x.directory
+-- the numbers that the code reads: of trips, of replicas; and the rows of the trips
+module _ (s : Scale) (x : Index) (w : Shown s x) where
+  pub trips_read : {m n : ℕ} → m ≡ s.m → n ≡ get_or x.directory (2 * partitions m) 0 → n ≡ length (table_of s x)
+  trips_read e f = f ∙ ap (λ (k : ℕ). get_or x.directory (2 * partitions k) 0) e ∙ w.trips
 
-abbrev pub first_back : (half : ℕ) → Index → (f : List ℕ) → List ℕ
-first_back half x f = f ++ drop (half - 0) (drop 0 x.directory)
-
-abbrev pub second_half : (half : ℕ) → Index → (f : List ℕ) → List ℕ
-second_half half x f = take (length x.directory - half) (drop half (first_back half x f))
+  pub rows-read : {n : ℕ} → n ≡ length (table_of s x) → rows (take (entry_words * n - 0) x.originals) ≡ table_of s x
+  rows-read e = ap (λ (k : ℕ). rows (take (entry_words * k - 0) x.originals)) e ∙ w.listed
 
 module _ (s : Scale) (x : Index) (h : Indexed s x) where
   -- the table is read off its own originals
@@ -141,9 +150,14 @@ module _ (s : Scale) (x : Index) (h : Indexed s x) where
   unfolding lengths_of
   enough = subst (λ (l : List Trip). entry_words * length l ≤ length x.originals) (sym itself) h.table.room.for_originals
 
-  pub shown : s.m ≤ deepest → Shown s x
+  long_directory : (2 * partitions s.m < length x.directory) × (0 < length x.directory)
+  unfolding directory_length half_length
+  long_directory = (omega (arith, directory_long s x h), omega (arith, directory_long s x h))
+
+  shown : s.m ≤ deepest → Shown s x
   shown deep = record {
-    size = directory_long s x h;
+    word_in = long_directory.0;
+    some_word = long_directory.1;
     trips = many;
     copies = replicated;
     firsts = ap length (sym itself);
@@ -153,40 +167,39 @@ module _ (s : Scale) (x : Index) (h : Indexed s x) where
     few_copies = entries_most s deep (table_of s x) h.table.few Replicas;
   }
 
-  -- ---- its halves, as an edit lends them
+  -- ---- its halves, as an edit splits the directory
 
   module _ {half : ℕ} (cut : half ≡ half_length s.m) where
-    both : length x.directory ≡ half + half
+    pub both : length x.directory ≡ half + half
     both = two_halves s.m (directory_long s x h) cut
 
-    -- the two halves are the first words and the rest
     long_first : (ts : List Trip) → length (directory_half s Originals ts) ≡ half
     long_first ts = directory_half-length s Originals ts ∙ sym cut
 
-    pub first_of_lem : HalfOf s Originals (table_of s x) x (first_half half x) x.originals
+    pub first_of_lem : HalfOf s Originals (table_of s x) x (take half x.directory) x.originals
     first_of_lem = record {
-      directory-is = first_lent x.directory half (length x.directory) both refl ∙ ap (take half) (directory_are s x h)
+      directory-is = ap (take half) (directory_are s x h)
           ∙ take_at (directory_half s Originals (table_of s x)) (directory_half s Replicas (table_of s x)) half (long_first (table_of s x));
       arena-is = originals_are s x h;
     }
 
-    module _ (ts : List Trip) (f o : List ℕ) (w : HalfOf s Originals ts x f o) where
-      long_f : length f ≡ half
-      long_f = ap length w.directory-is ∙ long_first ts
+    pub second_of : HalfOf s Replicas (table_of s x) x (drop half x.directory) x.replicas
+    second_of = record {
+      directory-is = ap (drop half) (directory_are s x h)
+          ∙ drop_at (directory_half s Originals (table_of s x)) (directory_half s Replicas (table_of s x)) half (long_first (table_of s x));
+      arena-is = replicas_are s x h;
+    }
 
-      pub second_of : HalfOf s Replicas (table_of s x) x (second_half half x f) x.replicas
-      second_of = record {
-        directory-is = second_next x.directory half (length x.directory) both refl f long_f ∙ ap (drop half) (directory_are s x h)
-            ∙ drop_at (directory_half s Originals (table_of s x)) (directory_half s Replicas (table_of s x)) half (long_first (table_of s x));
-        arena-is = replicas_are s x h;
-      }
+-- of words that pass the check
+pub seen : (r : Ruler) (x : Index) → check_outcome (scale r) x ≡ Accepted → Shown (scale r) x
+seen r x passes = shown (scale r) x (checked (scale r) x passes) (deep-ruler r)
 
-      -- both halves back are the whole index of the trips
-      pub both_of : (g r : List ℕ) → HalfOf s Replicas ts x g r
-          → index (put_mid half (length x.directory - half) (first_back half x f) g) o r ≡ layout s ts (lengths_of x)
-      unfolding layout lengths_of
-      both_of g r v =
-          let d = both_back x.directory half (length x.directory) both refl f long_f g ∙ ap₂ ◌++◌ w.directory-is v.directory-is in
-          let a = w.arena-is in
-          let b = v.arena-is in
-          λ i. record { directory = d i; originals = a i; replicas = b i }
+-- both halves of some trips, joined, are their index
+pub both_of : (s : Scale) (x : Index) (ts : List Trip) (f o g r : List ℕ) → HalfOf s Originals ts x f o → HalfOf s Replicas ts x g r
+    → index (f ++ g) o r ≡ layout s ts (lengths_of x)
+unfolding layout lengths_of
+both_of s x ts f o g r w v =
+    let d = ap₂ ◌++◌ w.directory-is v.directory-is in
+    let a = w.arena-is in
+    let b = v.arena-is in
+    λ i. record { directory = d i; originals = a i; replicas = b i }

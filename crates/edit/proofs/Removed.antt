@@ -12,10 +12,9 @@ use Rattle.lists.proofs.Halving.{at_mem}
 use Rattle.ruler.specs.Ruler.{Scale}
 use Rattle.trip.specs.declared.Trip.{Trip}
 use Rattle.layout.specs.declared.Refusal.TheVariants.{NoSuchId}
-use Rattle.layout.specs.declared.Outcome.{Outcome}
-use Rattle.layout.specs.declared.Outcome.TheVariants.{Accepted, Refused}
+use Rattle.layout.specs.Outcomes.{Accepted, Refused, rejection}
 use Rattle.layout.specs.Words.{entry_words, trip_at, rows, partitions, Index}
-use Rattle.layout.specs.Refusals.{is_accepted, refuse, table_of, remove_outcome, check_outcome}
+use Rattle.layout.specs.Refusals.{refuse, table_of, remove_outcome, check_outcome}
 use Rattle.layout.specs.Calls.{after, remove_of}
 use Rattle.layout.proofs.Rows.{get_or_rows}
 use Rattle.store.specs.Ordered.{no_trip}
@@ -43,22 +42,23 @@ pub record Found (s : Scale) (x : Index) (i : ℕ) (t : Trip) : Type 0 where
   pub same : t.id ≡ i
   pub accepted : remove_outcome s x i ≡ Accepted
 
-module _ (s : Scale) (x : Index) (i place : ℕ) (good : check_outcome s x ≡ Accepted) (w : Shown s x) (e : place ≡ place_of_id i (table_of s x)) where
-  pub found : (t : Trip) → place < length (table_of s x) → t ≡ trip_at x.originals place → Found s x i t
+module _ (s : Scale) (x : Index) (i : ℕ) (good : check_outcome s x ≡ Accepted) (w : Shown s x) where
+  pub found : (t : Trip) (place : ℕ) → (place < length (table_of s x)) × (place ≡ place_of_id i (table_of s x)) → t ≡ trip_at x.originals place
+      → Found s x i t
   unfolding refuse
-  found t h q =
-      let here : t ≡ get_or (table_of s x) place no_trip = q ∙ table_at s x place h (omega (arith, w.inside)) in
+  found t place at q =
+      let here : t ≡ get_or (table_of s x) place no_trip = q ∙ table_at s x place at.0 (omega (arith, w.inside, at.0)) in
       record {
-        member = subst (λ (u : Trip). Mem u (table_of s x)) (sym here) (at_mem no_trip (table_of s x) place h);
-        same = ap (λ (u : Trip). u.id) here ∙ ap (λ (k : ℕ). (get_or (table_of s x) k no_trip).id) e
-            ∙ place_id i (table_of s x) (subst (λ (k : ℕ). k < length (table_of s x)) e h);
+        member = subst (λ (u : Trip). Mem u (table_of s x)) (sym here) (at_mem no_trip (table_of s x) place at.0);
+        same = ap (λ (u : Trip). u.id) here ∙ ap (λ (k : ℕ). (get_or (table_of s x) k no_trip).id) at.1
+            ∙ place_id i (table_of s x) (omega (arith, at.0, at.1));
         accepted = remove-outcome s x i true good
-            (has_place i (table_of s x) ∙ lt-ltb (place_of_id i (table_of s x)) (length (table_of s x)) (subst (λ (k : ℕ). k < length (table_of s x)) e h));
+            (has_place i (table_of s x) ∙ lt-ltb (place_of_id i (table_of s x)) (length (table_of s x)) (omega (arith, at.0, at.1)));
       }
 
   -- or the id is not there
-  pub not_found : (o : Outcome) → length (table_of s x) ≤ place → o ≡ Refused NoSuchId 0 → after o x ≡ remove_of s x i
-  unfolding refuse is_accepted
-  not_found o h q =
-      remove_refused s x i o (ap is_accepted q) (q ∙ sym (remove-outcome s x i false good
-      (has_place i (table_of s x) ∙ le-ltb (place_of_id i (table_of s x)) (length (table_of s x)) (subst (λ (k : ℕ). length (table_of s x) ≤ k) e h))))
+  pub not_found : length (table_of s x) ≤ place_of_id i (table_of s x) → after (Refused NoSuchId 0) x ≡ remove_of s x i
+  unfolding refuse
+  not_found h =
+      remove_refused s x i (rejection NoSuchId 0) (sym (remove-outcome s x i false good
+      (has_place i (table_of s x) ∙ le-ltb (place_of_id i (table_of s x)) (length (table_of s x)) h)))

@@ -2,3 +2,4 @@
 pub mod SlotFound
 pub mod HalfEdited
 pub mod Search
+pub mod SlotSteps

@@ -1,6 +1,8 @@
-// One slot of a half in an edit: the place of a trip in the slot's order, and the entry put in or taken out there.
-ghost use Rattle.std.specs.Prelude.{◌≡◌, List};
+// One slot of a half in an edit: the place of a trip in the slot's order, and the entry put in or taken out there. What an addition and a removal
+// do alike is written once, for any edit.
+ghost use Rattle.std.specs.Prelude.{◌≡◌, List, ℕ};
 ghost use Rattle.trip.specs.declared.Trip.{Trip};
+ghost use Rattle.layout.specs.declared.Half.{Half};
 ghost use Rattle.store.specs.Slots.{inserted_in, removed_in, Holds};
 ghost use Rattle.edit.specs.SlotFound.{place_in, Orderly, Vacant, Present};
 
@@ -21,22 +23,41 @@ fn place_in(half: Half, dir: &[u32], arena: &[u32], slot: usize, t: Trip) -> usi
     )
 }
 
-// Puts a trip into a slot, at its place in the slot's order.
-pub fn add_to_slot(half: Half, dir: &mut [u32], arena: &mut [u32], slot: usize, t: Trip)
-    requires { (ls : List (List Trip)) × Vacant dir.old arena.old ls half slot }
-    ensures { (ls : List (List Trip)) → Vacant dir.old arena.old ls half slot
-        → Holds dir.new arena.new (inserted_in slot (place_in half slot t ls) t ls) }
-{
-    let pos = place_in(half, dir, arena, slot, t);
-    slot::insert(dir, arena, slot, pos, t);
+// An edit, as what it does at one slot: what the slot has to be, and the slots when it is done.
+pub trait Edit {
+    ghost ready: { (dir arena : List ℕ) → List (List Trip) → Half → (slot : ℕ) → Trip → Type 0 };
+
+    ghost changed: { Half → (slot : ℕ) → Trip → List (List Trip) → List (List Trip) };
+
+    fn at_slot(half: Half, dir: &mut [u32], arena: &mut [u32], slot: usize, t: Trip)
+        requires { (ls : List (List Trip)) × ready dir.old arena.old ls half slot t }
+        ensures { (ls : List (List Trip)) → ready dir.old arena.old ls half slot t → Holds dir.new arena.new (changed half slot t ls) };
 }
 
-// Takes a trip out of a slot that has it.
-pub fn remove_from_slot(half: Half, dir: &mut [u32], arena: &mut [u32], slot: usize, t: Trip)
-    requires { (ls : List (List Trip)) × Present dir.old arena.old ls half slot t }
-    ensures { (ls : List (List Trip)) → Present dir.old arena.old ls half slot t
-        → Holds dir.new arena.new (removed_in slot (place_in half slot t ls) ls) }
-{
-    let pos = place_in(half, dir, arena, slot, t);
-    slot::remove(dir, arena, slot, pos);
+// The trip goes into a slot, at its place in the slot's order.
+pub struct Addition {}
+
+impl Edit for Addition {
+    ghost ready = { λ dir arena ls half slot t. Vacant dir arena ls half slot };
+
+    ghost changed = { λ half slot t ls. inserted_in slot (place_in half slot t ls) t ls };
+
+    fn at_slot(half: Half, dir: &mut [u32], arena: &mut [u32], slot: usize, t: Trip) {
+        let pos = place_in(half, dir, arena, slot, t);
+        slot::insert(dir, arena, slot, pos, t);
+    }
+}
+
+// The trip's entry is taken out of a slot that has it.
+pub struct Removal {}
+
+impl Edit for Removal {
+    ghost ready = { λ dir arena ls half slot t. Present dir arena ls half slot t };
+
+    ghost changed = { λ half slot t ls. removed_in slot (place_in half slot t ls) ls };
+
+    fn at_slot(half: Half, dir: &mut [u32], arena: &mut [u32], slot: usize, t: Trip) {
+        let pos = place_in(half, dir, arena, slot, t);
+        slot::remove(dir, arena, slot, pos);
+    }
 }

@@ -3,12 +3,13 @@
 #![tactic(auto)]
 
 ghost use Rattle.std.specs.Prelude.{◌≡◌, length};
-ghost use Rattle.layout.specs.Calls.{index, if_accepted};
+ghost use Rattle.layout.specs.Calls.{index};
 ghost use Rattle.export.specs.Said.{bits_named, spread_named, numbers_named};
 ghost use Rattle.export.specs.Said.{said_of, left, told, build_said, add_said, remove_said, check_said, ask_said, counted, census_said, arena_of, run_said};
 
-use layout::Outcome;
+use layout::Rejection;
 use ruler::Numbers;
+use store::words::Words;
 use trip::{Asking, Trip};
 use view::{LEVELS, SUBDIVISIONS};
 
@@ -33,6 +34,9 @@ const UNUSED: u32 = 0;
 
 // The width that no ruler has.
 const NO_WIDTH: u32 = 0;
+
+// The number of a call that is not refused.
+const ACCEPTED: u32 = 0;
 
 // The number of refusal, or 0, and its detail.
 #[repr(C)]
@@ -64,41 +68,46 @@ pub struct Shown {
 // The first subdivision whose runs are parts of the replicas.
 const FIRST_OF_REPLICAS: u32 = 2;
 
-// The arena of a run: 0 the originals, 1 the replicas. A refused run is an empty part of the originals.
-fn arena_of(outcome: Outcome, subdivision: u32) -> u32
-    ensures { result ≡ if_accepted outcome (arena_of subdivision) 0 }
+// The arena of a run: 0 the originals, 1 the replicas.
+#[tactic(auto, unfolding(crate::specs::Said::arena_of))]
+fn arena_of(subdivision: u32) -> u32
+    ensures { result ≡ arena_of subdivision }
 {
-    if !layout::is_accepted(outcome) | (subdivision < FIRST_OF_REPLICAS) {
+    if subdivision < FIRST_OF_REPLICAS {
         return 0;
     }
     1
 }
 
 // The numbers that a ruler of C names. Another kind names a width that no ruler has, so every call refuses it with 1.
-fn numbers_named(ruler: NamedRuler) -> Numbers
-    ensures { result ≡ numbers_named ruler }
-{
-    let m = ruler.m;
-    if ruler.kind == BITS {
-        return Numbers::Bits { w: ruler.first, m };
+impl From<NamedRuler> for Numbers {
+    ghost from_gives = { λ r n. n ≡ numbers_named r };
+
+    fn from(ruler: NamedRuler) -> Numbers {
+        let m = ruler.m;
+        if ruler.kind == BITS {
+            return Numbers::Bits { w: ruler.first, m };
+        }
+        if ruler.kind == SPREAD {
+            return Numbers::Spread {
+                m,
+                lo: ruler.first,
+                hi: ruler.second,
+            };
+        }
+        Numbers::Bits { w: NO_WIDTH, m }
     }
-    if ruler.kind == SPREAD {
-        return Numbers::Spread {
-            m,
-            lo: ruler.first,
-            hi: ruler.second,
-        };
-    }
-    Numbers::Bits { w: NO_WIDTH, m }
 }
 
-// An outcome in the numbers of document 01.
-fn in_numbers(outcome: Outcome) -> Said
-    ensures { result ≡ said_of outcome }
-{
-    Said {
-        number: layout::number_of(outcome),
-        detail: layout::detail_of(outcome),
+// What a call answers in the numbers of document 01.
+impl From<Result<(), Rejection>> for Said {
+    ghost from_gives = { λ o said. said ≡ said_of o };
+
+    fn from(outcome: Result<(), Rejection>) -> Said {
+        Said {
+            number: layout::number_of(outcome),
+            detail: layout::detail_of(outcome),
+        }
     }
 }
 
@@ -136,7 +145,7 @@ pub fn kheyambo_build(
     ensures { left result (index directory.new originals.new replicas.new)
         ≡ build_said (numbers_named ruler) table.now (index directory.old originals.old replicas.old) }
 {
-    in_numbers(build::build(numbers_named(ruler), table, directory, originals, replicas))
+    Said::from(build::build(Numbers::from(ruler), table, directory, originals, replicas))
 }
 
 pub fn kheyambo_check(
@@ -147,7 +156,12 @@ pub fn kheyambo_check(
 ) -> Said
     ensures { result ≡ check_said (numbers_named ruler) (index directory.now originals.now replicas.now) }
 {
-    in_numbers(verify::check(numbers_named(ruler), directory, originals, replicas))
+    let words = Words {
+        directory,
+        originals,
+        replicas,
+    };
+    Said::from(verify::check(Numbers::from(ruler), words))
 }
 
 pub fn kheyambo_add(
@@ -164,7 +178,7 @@ pub fn kheyambo_add(
         ≡ add_said (numbers_named ruler) id start end days (index directory.old originals.old replicas.old) }
 {
     let t = Trip::of(id, start, end, days);
-    in_numbers(edit::add(numbers_named(ruler), directory, originals, replicas, t))
+    Said::from(edit::add(Numbers::from(ruler), directory, originals, replicas, t))
 }
 
 pub fn kheyambo_remove(
@@ -177,7 +191,7 @@ pub fn kheyambo_remove(
     ensures { left result (index directory.new originals.new replicas.new)
         ≡ remove_said (numbers_named ruler) id (index directory.old originals.old replicas.old) }
 {
-    in_numbers(edit::remove(numbers_named(ruler), directory, originals, replicas, id))
+    Said::from(edit::remove(Numbers::from(ruler), directory, originals, replicas, id))
 }
 
 pub fn kheyambo_ask<'a>(
@@ -195,19 +209,22 @@ pub fn kheyambo_ask<'a>(
         ≡ ask_said (numbers_named ruler) code start end day (index directory.now originals.now replicas.now) answers.old }
 {
     let asking = Asking::of(code, start, end, day);
-    let answered = ask::ask(
-        numbers_named(ruler),
+    let words = Words {
         directory,
         originals,
         replicas,
-        asking,
-        answers,
-    );
-    let outcome = answered.outcome;
-    Told {
-        number: layout::number_of(outcome),
-        detail: layout::detail_of(outcome),
-        count: answered.count,
+    };
+    match ask::ask(Numbers::from(ruler), words, asking, answers) {
+        Ok(count) => Told {
+            number: ACCEPTED,
+            detail: 0,
+            count,
+        },
+        Err(rejection) => Told {
+            number: u32::from(rejection.refusal),
+            detail: rejection.detail,
+            count: 0,
+        },
     }
 }
 
@@ -222,10 +239,15 @@ pub fn kheyambo_census(
     ensures { counted result counts.new
         ≡ census_said (numbers_named ruler) (index directory.now originals.now replicas.now) }
 {
-    let opened = verify::open(numbers_named(ruler), directory, originals, replicas);
+    let words = Words {
+        directory,
+        originals,
+        replicas,
+    };
+    let opened = verify::open(Numbers::from(ruler), words);
     let rows = view::rows_opened(opened, directory);
     *counts = rows;
-    in_numbers(verify::outcome_of(opened))
+    Said::from(verify::outcome_of(opened))
 }
 
 // A run: where it stands in the arenas, and nothing copied.
@@ -240,20 +262,23 @@ pub fn kheyambo_run<'a>(
 ) -> Shown
     ensures { result ≡ run_said (numbers_named ruler) level partition subdivision (index directory.now originals.now replicas.now) }
 {
-    let place = view::run_place(
-        numbers_named(ruler),
+    let words = Words {
         directory,
         originals,
         replicas,
-        level,
-        partition,
-        subdivision,
-    );
-    let outcome = place.outcome;
-    Shown {
-        number: layout::number_of(outcome),
-        arena: arena_of(outcome, subdivision),
-        offset: place.from as u32,
-        length: place.length as u32,
+    };
+    match view::run_place(Numbers::from(ruler), words, level, partition, subdivision) {
+        Ok(place) => Shown {
+            number: ACCEPTED,
+            arena: arena_of(subdivision),
+            offset: place.from as u32,
+            length: place.length as u32,
+        },
+        Err(rejection) => Shown {
+            number: u32::from(rejection.refusal),
+            arena: 0,
+            offset: 0,
+            length: 0,
+        },
     }
 }

@@ -14,7 +14,8 @@ use Rattle.text.specs.Command.{command_of}
 use Rattle.text.specs.Lines.{unless_empty, lines_of}
 use Rattle.text.proofs.LineSteps.{lines_after, after_nothing, after_all, after-newline, after_byte}
 use Rattle.dialogue.specs.Session.{State, state, Turn, turn_of, writes_for, start, session_of}
-use Rattle.feeding.specs.Feeding.{line_kept, Held, held, Feed, leaving, begun, line_done, byte_kept, byte_of, feed_of, end_of, run_of, Reached}
+use Rattle.feeding.specs.Line.{line_kept}
+use Rattle.feeding.specs.Feeding.{Held, held, Feed, leaving, begun, line_done, byte_kept, byte_of, feed_of, end_of, run_of, Reached}
 use Rattle.dialogue.proofs.SessionTurns.{cut_turn}
 
 -- ---- Chunks one after another

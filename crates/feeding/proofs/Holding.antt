@@ -1,109 +1,49 @@
 -- What the code holds is what the definitions hold: after a line, after a byte, and from byte to byte of a chunk.
 -- Assumes nothing.
 use mathlib.Core.Path.{◌≡◌, refl, sym, ap, ◌∙◌}
-use mathlib.Core.Bool.{Bool, true, false, ◌&&◌}
-use mathlib.Core.List.{List, [], ◌∷◌, ◌++◌}
+use mathlib.Core.Bool.{true, false, ◌&&◌}
+use mathlib.Core.List.{List, [], ◌++◌}
 use Prim.Native.Nat.{ℕ, ◌+◌, ◌-◌, ◌*◌, ◌≤◌, ◌<◌}
 use native.Mathlib.Numerals.{add-one}
 use native.Mathlib.Omega.{arith}
 use borrow.Author.Tests.{eq-eqb, ne_eqb}
 use lib.Dec.{ltb}
-use lib.ListN.{length, take, drop, get_or, set, replicate, length-append, length-take}
-use lib.Seq.{sets, length-sets, take_all, take_at, take-suc-set, length-take-le, drop-cons, drop-length}
+use lib.ListN.{length, drop, get_or, length-append, length-take}
+use lib.Seq.{sets, length-sets, drop-cons, drop-length}
 use borrow.Rule.Slice.PartMut.{mid_of, put_mid}
-use Rattle.lists.specs.Lists.{padded}
-use Rattle.lists.proofs.Padded.{padded-length, padded-more}
-use Rattle.lists.proofs.Lent.{head_lent, part_stored}
+use Rattle.lists.proofs.Lent.{part_stored}
 use Rattle.lists.proofs.Stores.{sets_append}
 use Rattle.layout.specs.Words.{Index}
 use Rattle.text.specs.Bytes.{newline}
 use Rattle.text.specs.Command.{command_of}
-use Rattle.dialogue.specs.declared.Desk.{Desk}
 use Rattle.dialogue.specs.declared.Turned.{Turned}
 use Rattle.feeding.specs.declared.Standing.{Standing}
 use Rattle.feeding.specs.declared.Fed.{Fed}
 use Rattle.dialogue.specs.Session.{most_reply, state, turn_of, Done}
-use Rattle.feeding.specs.Feeding.{line_kept, Held, held, Feed, leaving, line_done, byte_kept, byte_of, feed_of, end_of, held_by, Sound, Left}
+use Rattle.feeding.specs.Feeding.{Held, Feed, leaving, line_done, byte_kept, byte_of, feed_of, end_of, held_by, Sound, Left}
 use Rattle.dialogue.proofs.SessionTurns.{done_keeps}
 
--- ---- What is kept of a line
-
-module _ {s : Standing} (sound : Sound s) where
-  line : List ℕ
-  line = take s.held s.line
-
-  -- the line's room, and how many bytes it holds
-  pub line-room : length s.line ≡ line_kept
-  unfolding line
-  line-room = ap length sound.zeros ∙ padded-length line_kept line (omega (arith, length-take s.held s.line, sound.within))
-
-  holds : length line ≡ s.held
-  unfolding line
-  holds = length-take-le s.held s.line (omega (arith, line-room, sound.within))
-
-  abbrev pub with_byte : ℕ → Standing
-  with_byte b = record { desk = s.desk; line = set s.line s.held b; held = s.held + 1; more = s.more }
-
-  next-line : (b : ℕ) → s.held < line_kept → take (s.held + 1) (set s.line s.held b) ≡ line ++ (b ∷ [])
-  unfolding line
-  next-line b h = rw add-one (take-suc-set s.line s.held b (omega (arith, line-room)))
-
-  -- a byte that has room is kept
-  pub byte_kept_lem : (b : ℕ) → s.held < line_kept
-      → Sound (with_byte b) × ((x : Index) (l : List ℕ) → held_by (with_byte b) x l ≡ (byte_kept (held_by s x l) b).after)
-  unfolding byte_kept line
-  byte_kept_lem b h =
-      let next = next-line b h in
-      let count : length (line ++ (b ∷ [])) ≡ s.held + 1 = length-append line (b ∷ []) ∙ omega (arith, holds) in
-      let zeros : set s.line s.held b ≡ padded line_kept (line ++ (b ∷ [])) =
-      ap (λ (m : List ℕ). set m s.held b) sound.zeros ∙ ap (λ (n : ℕ). set (padded line_kept line) n b) (sym holds)
-      ∙ padded-more line_kept line b (omega (arith, holds)) in
-      let all : take line_kept (line ++ (b ∷ [])) ≡ line ++ (b ∷ []) = take_all line_kept (line ++ (b ∷ [])) (omega (arith, count)) in (
-        record { within = omega arith; zeros = rw next zeros; ruler = sound.ruler },
-        λ x l. ap (λ (m : List ℕ). held (state s.desk x l) m s.more) (next ∙ sym all),
-      )
-
-  -- and one that has none is not
-  pub byte_lost : (b : ℕ) → line_kept ≤ s.held → (x : Index) (l : List ℕ) → held_by s x l ≡ (byte_kept (held_by s x l) b).after
-  unfolding byte_kept line
-  byte_lost b h x l = ap (λ (m : List ℕ). held (state s.desk x l) m s.more)
-      (sym (take_at line (b ∷ []) line_kept (omega (arith, holds, sound.within))))
-
--- so what is held settles every word of what the code holds
-pub one_standing : {s t : Standing} → Sound s → Sound t → (x y : Index) (l m : List ℕ) → held_by s x l ≡ held_by t y m → s ≡ t
-unfolding line
-one_standing {s} {t} a b x y l m e =
-    let same : take s.held s.line ≡ take t.held t.line = ap (λ (h : Held). h.line) e in
-    let count : s.held ≡ t.held = sym (holds a) ∙ ap length same ∙ holds b in
-    let whole : s.line ≡ t.line = a.zeros ∙ ap (padded line_kept) same ∙ sym b.zeros in
+-- what is held settles every word of what the code holds
+pub one_standing : (s t : Standing) (x y : Index) (l m : List ℕ) → held_by s x l ≡ held_by t y m → s ≡ t
+one_standing s t x y l m e =
     let desk : s.desk ≡ t.desk = ap (λ (h : Held). h.keeps.desk) e in
+    let line : s.line ≡ t.line = ap (λ (h : Held). h.line) e in
     let more : s.more ≡ t.more = ap (λ (h : Held). h.goes_on) e in
-    let made : Desk → List ℕ → ℕ → Bool → Standing = λ d m n b. record { desk = d; line = m; held = n; more = b } in
-    ap (λ (d : Desk). made d s.line s.held s.more) desk ∙ ap (λ (m : List ℕ). made t.desk m s.held s.more) whole
-    ∙ ap (λ (n : ℕ). made t.desk t.line n s.more) count ∙ ap (λ (b : Bool). made t.desk t.line t.held b) more
+    λ i. record { desk = desk i; line = line i; more = more i }
 
 -- ---- A line that ended
 
-abbrev pub after_line : Turned → Fed
-after_line t = record {
-  standing = record { desk = t.desk; line = replicate line_kept 0; held = 0; more = t.more };
-  written = t.written;
-}
-
 pub line-left : (s : Standing) (x : Index) (l : List ℕ) → Sound s → {r : Turned} {x' : Index} {l' out₀ out : List ℕ}
-    → Done (turn_of (state s.desk x l) (command_of (mid_of 0 (s.held - 0) s.line))) r x' l' out₀ out
-    → Left (line_done (held_by s x l)) (after_line r) x' l' out₀ out
-unfolding line_done padded
-line-left s x l sound {r} {x'} {l'} {out₀} {out} d =
-    let done : Done (turn_of (state s.desk x l) (command_of (take s.held s.line))) r x' l' out₀ out =
-    rw (head_lent s.line s.held) at d in
-    record {
-      holds = rw (done.next, done.goes);
-      sound = record { within = omega arith; zeros = refl; ruler = done_keeps _ _ done sound.ruler };
-      count = done.count;
-      fits = done.fits;
-      bytes = done.bytes;
-    }
+    → Done (turn_of (state s.desk x l) (command_of s.line)) r x' l' out₀ out
+    → Left (line_done (held_by s x l)) (record { standing = record { desk = r.desk; line = []; more = r.more }; written = r.written }) x' l' out₀ out
+unfolding line_done
+line-left s x l sound done = record {
+  holds = rw (done.next, done.goes);
+  sound = record { ruler = done_keeps _ _ done sound.ruler };
+  count = done.count;
+  fits = done.fits;
+  bytes = done.bytes;
+}
 
 -- ---- What a byte leaves, by what it is, and what the end leaves
 
@@ -122,15 +62,15 @@ module _ (s : Standing) (x : Index) (l : List ℕ) {r : Fed} {x' : Index} {l' ou
   unfolding byte_of byte_kept
   byte_stays b e n kept left = rw (e, ne_eqb b newline n) (rw (kept, e) at left)
 
-  pub end_line : Sound s → (s.more && ltb 0 s.held) ≡ true → Left (line_done (held_by s x l)) r x' l' out₀ out
+  pub end_line : (s.more && ltb 0 (length s.line)) ≡ true → Left (line_done (held_by s x l)) r x' l' out₀ out
       → Left (end_of (held_by s x l)) r x' l' out₀ out
-  unfolding end_of line
-  end_line sound e left = rw (holds sound, e) left
+  unfolding end_of
+  end_line e left = rw e left
 
-  pub end_silent : Sound s → (s.more && ltb 0 s.held) ≡ false → Left (leaving (held_by s x l) []) r x' l' out₀ out
+  pub end_silent : (s.more && ltb 0 (length s.line)) ≡ false → Left (leaving (held_by s x l) []) r x' l' out₀ out
       → Left (end_of (held_by s x l)) r x' l' out₀ out
-  unfolding end_of line
-  end_silent sound e left = rw (holds sound, e) left
+  unfolding end_of
+  end_silent e left = rw e left
 
 -- ---- A chunk, from byte to byte
 

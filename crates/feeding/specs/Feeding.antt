@@ -1,18 +1,13 @@
 -- Document 01, the session program: its input comes in chunks. What is held between two bytes of it, and what a byte, a chunk and the end do.
-use Rattle.std.specs.Prelude.{◌≡◌, Bool, true, cond, ◌&&◌, List, [], ◌∷◌, ◌++◌, ℕ, ◌+◌, ◌*◌, ◌≤◌, ltb, eqb, length, take}
+use Rattle.std.specs.Prelude.{◌≡◌, Bool, true, cond, ◌&&◌, List, [], ◌∷◌, ◌++◌, ℕ, ◌*◌, ◌≤◌, ltb, eqb, length, take, IfSome}
 use Rattle.std.proofs.lemmas.List.Edits.{sets}
-use Rattle.lists.specs.Lists.{padded}
 use Rattle.layout.specs.Words.{directory_length, Index}
 use Rattle.text.specs.Bytes.{newline}
-use Rattle.text.specs.Command.{command_of, longest_line}
+use Rattle.text.specs.Command.{command_of}
+use Rattle.feeding.specs.Line.{line_kept}
 use Rattle.feeding.specs.declared.Standing.{Standing}
 use Rattle.feeding.specs.declared.Fed.{Fed}
-use Rattle.dialogue.specs.Session.{deepest_here, most_answers, most_reply, State, state, turn_of, start}
-use Rattle.ruler.specs.Ruler.{bottom_of}
-
--- what is kept of a line: a byte more than any that is not malformed has, so that a longer one stays malformed
-abbrev pub line_kept : ℕ
-line_kept = longest_line + 1
+use Rattle.dialogue.specs.Session.{deepest_here, most_answers, most_reply, State, state, turn_of, start, InSession}
 
 -- between two bytes of the input: the session's state, what is kept of the line that has not ended, and whether the session goes on
 pub record Held : Type 0 where
@@ -70,13 +65,12 @@ Reached h = (input : List ℕ) × (h ≡ (feed_of begun input).after)
 
 -- what the code holds, with the words lent
 abbrev pub held_by : Standing → Index → (answers : List ℕ) → Held
-held_by s x l = held (state s.desk x l) (take s.held s.line) s.more
+held_by s x l = held (state s.desk x l) s.line s.more
 
--- the code keeps no more of a line than it has room for, with zeros after it, and its ruler is one of the session
+-- the ruler of the code, if any, is one of the session
+-- it stays a fact beside the Standing: `begin`, and the theorem `begin_settled` of `demands`, promise it by this name
 pub record Sound (s : Standing) : Type 0 where
-  pub within : s.held ≤ line_kept
-  pub zeros : s.line ≡ padded line_kept (take s.held s.line)
-  pub ruler : bottom_of s.desk.numbers ≤ deepest_here
+  pub ruler : IfSome s.desk InSession
 
 -- the words lent have room for n lines
 pub record Ready (n : ℕ) (directory answers out : List ℕ) : Type 0 where

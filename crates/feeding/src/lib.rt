@@ -7,26 +7,25 @@ ghost use Rattle.layout.specs.Calls.{index};
 ghost use Rattle.dialogue.specs.Session.{state, start};
 ghost use Rattle.feeding.specs.Feeding.{held, line_done, leaving, byte_kept, byte_of, feed_of, end_of, held_by, Sound, Ready, Left};
 
-use dialogue::{Desk, turn};
+use dialogue::turn;
+use line::Line;
 use ruler::Numbers;
-use text::LONGEST_LINE;
+
+mod line;
 
 // The byte between lines.
 const NEWLINE: u8 = b'\n';
 
-// What is kept of a line: a byte more than the longest that means something has. A longer one is malformed however it goes on.
-const LINE: usize = LONGEST_LINE + 1;
-
 // The longest answer: a count and 256 ids.
 const REPLY: usize = 2848;
 
-// Where the session stands between two bytes of the input: the desk, the bytes of a line that has not ended, and whether it goes on. Its
-// fields are private, so what is held cannot be lost between two chunks.
+// Where the session stands between two bytes of the input: its ruler, what is kept of a line that has not ended, and whether it goes on. Its
+// fields are private, so what is held cannot be lost between two chunks. What each
+// promises of its ruler stays a clause, `Sound`, which the law of the first byte names.
 #[derive(Clone, Copy)]
 pub struct Standing {
-    desk: Desk,
-    line: [u8; LINE],
-    held: usize,
+    desk: Option<Numbers>,
+    line: Line,
     more: bool,
 }
 
@@ -42,19 +41,15 @@ pub fn begin() -> Standing
     ensures { Sound result × ((x : Index) (l : List ℕ) → held_by result x l ≡ held (state start.desk x l) [] true) }
 {
     Standing {
-        desk: Desk {
-            started: false,
-            numbers: Numbers::Bits { w: 0, m: 0 },
-        },
-        line: [0u8; LINE],
-        held: 0,
+        desk: None,
+        line: Line::new(),
         more: true,
     }
 }
 
 // Whether the next byte is read.
-pub fn goes_on(standing: Standing) -> bool
-    ensures { result ≡ standing.more }
+pub fn goes_on(standing: &Standing) -> bool
+    ensures { result ≡ standing.now.more }
 {
     standing.more
 }
@@ -85,40 +80,32 @@ fn line_done(
         (index directory.new originals.new replicas.new) answers.new
         out.old out.new }
 {
-    let line = standing.line;
-    let held = standing.held;
     let turned = turn::turn(
         standing.desk,
-        &line[0..held],
+        standing.line.bytes(),
         directory,
         originals,
         replicas,
         answers,
         out,
     );
-    let desk = turned.desk;
     Fed {
         standing: Standing {
-            desk,
-            line: [0u8; LINE],
-            held: 0,
+            desk: turned.desk,
+            line: Line::new(),
             more: turned.more,
         },
         written: turned.written,
     }
 }
 
-// A byte of a line that goes on. What a line has past the bytes that are kept changes nothing.
+// A byte of a line that goes on.
 fn keep_byte(standing: Standing, byte: u8) -> Standing
     requires { Sound standing }
     ensures { Sound result × ((x : Index) (l : List ℕ) → held_by result x l ≡ (byte_kept (held_by standing x l) byte).after) }
 {
     let mut kept = standing;
-    let held = standing.held;
-    if held < LINE {
-        kept.line[held] = byte;
-        kept.held = held + 1;
-    }
+    kept.line.push(byte);
     kept
 }
 
@@ -166,22 +153,19 @@ pub fn feed(
 {
     let mut standing = from;
     let mut to: usize = 0;
-    let mut i: usize = 0;
-    while i < chunk.len() {
+    for &byte in chunk {
         let end = to + REPLY;
         let fed = take_byte(
             standing,
-            chunk[i],
+            byte,
             directory,
             originals,
             replicas,
             answers,
             &mut out[to..end],
         );
-        let next = fed.standing;
-        standing = next;
+        standing = fed.standing;
         to += fed.written;
-        i += 1;
     }
     Fed {
         standing,
@@ -204,8 +188,7 @@ pub fn finish(
         (index directory.new originals.new replicas.new) answers.new
         out.old out.new }
 {
-    let held = standing.held;
-    if standing.more & (0 < held) {
+    if standing.more && !standing.line.is_empty() {
         return line_done(standing, directory, originals, replicas, answers, out);
     }
     silent(standing)

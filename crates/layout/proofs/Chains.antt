@@ -1,5 +1,6 @@
 -- Chains of refusals: where one accepts, every test of it failed; and each test, as the fact that it tests.
-use mathlib.Core.Path.{◌≡◌, refl, sym, ◌∙◌}
+use Rattle.std.proofs.Common.{Err, Ok}
+use mathlib.Core.Path.{ap, ◌≡◌, refl, sym, ◌∙◌}
 use mathlib.Core.Bool.{Bool, true, false, not, ◌&&◌}
 use mathlib.Core.List.Memᴰ.{head as here}
 use mathlib.Core.List.Memᴰ.{not-nil}
@@ -19,16 +20,20 @@ use Rattle.trip.specs.declared.Window.{Window}
 use Rattle.trip.specs.Trips.{last_day, never_runs}
 use Rattle.layout.specs.declared.Half.TheVariants.{Originals, Replicas}
 use Rattle.layout.specs.declared.Refusal.{Refusal}
+use Rattle.layout.specs.declared.Rejection.{Rejection}
 use Rattle.layout.specs.declared.Refusal.TheVariants.{OffRuler, Backward, NoRoom, NoSuchDay}
-use Rattle.layout.specs.declared.Outcome.{Outcome}
-use Rattle.layout.specs.declared.Outcome.TheVariants.{Accepted, Refused}
+use Rattle.layout.specs.Outcomes.{Outcome, Accepted, Refused}
 use Rattle.layout.specs.Words.{entry_words, directory_length, entries, Lengths}
-use Rattle.layout.specs.Refusals.{refuse, is_accepted, out_of_bounds, bad_size, bad_directory, off_ruler, backward, has_id, no_room, exceeds, no_such_day, time_tests, window_tests, room_test, on_ruler, OnRuler, fits, Fits}
+use Rattle.layout.specs.Refusals.{refuse, detail_of, is_accepted, out_of_bounds, bad_size, bad_directory, off_ruler, backward, has_id, no_room, exceeds, no_such_day, time_tests, window_tests, room_test, on_ruler, OnRuler, fits, Fits}
 
 -- ---- one link
 
 pub refused_not : {A : Type 0} (why : Refusal) (d : ℕ) → Refused why d ≡ Accepted → A
 refused_not why d e = let z : ◌≡◌ {A = ℕ} 0 1 = cc in absurd (omega arith)
+
+-- a refusal says why
+pub refusal_of : {why why' : Refusal} {d d' : ℕ} → Refused why d ≡ Refused why' d' → why ≡ why'
+refusal_of {why} e = ap (λ (o : Outcome). elim o [ Ok _ ↦ why | Err r ↦ r.refusal ]) e
 
 pub refuse_no : (b : Bool) (why : Refusal) (d : ℕ) (rest : Outcome) → refuse b why d rest ≡ Accepted → T (not b) × (rest ≡ Accepted)
 unfolding refuse
@@ -47,8 +52,8 @@ refuse_taken false why d rest t = absurd t
 
 pub of_accepted : (o : Outcome) → T (is_accepted o) → o ≡ Accepted
 unfolding is_accepted
-of_accepted Accepted t = refl
-of_accepted (Refused why d) t = absurd t
+of_accepted (Ok _) t = refl
+of_accepted (Err r) t = absurd t
 
 -- ---- each test, as a fact
 
@@ -150,17 +155,6 @@ unfolding fits
 to_fits s t f =
     to_and (on_ruler s t.start t.end) (not (never_runs t)) (to_on_ruler s t.start t.end f.times) f.runs
 
--- the chain of both, by what the code found of each time
-pub off_said : (s : Scale) (start end : Time) {a b : Bool} (v : Bool) → a ≡ s.has start → b ≡ s.has end → not (a && b) ≡ v
-    → off_ruler s start end ≡ v
-unfolding off_ruler
-off_said s start end v e f h = rw (← e, ← f) h
-
-pub times-said : (s : Scale) (start end : Time) (k : ℕ) (a b : Bool) → off_ruler s start end ≡ a → backward start end ≡ b
-    → refuse a OffRuler k (refuse b Backward k Accepted) ≡ time_tests s start end k Accepted
-unfolding time_tests
-times-said s start end k a b e f = rw (e, f)
-
 pub of_has_id : (i : ℕ) (ts : List Trip) → T (not (has_id i ts)) → (u : Trip) → Mem u ts → u.id ≡ i → ⊥
 unfolding has_id
 of_has_id i [] t u m e = not-nil m
@@ -208,7 +202,7 @@ unfolding room_test exceeds refuse
 of_no_room_lem n room d e = go (ltb room n) (ltb→lt room n) e
   where
     go : (b : Bool) → (T b → room < n) → refuse b NoRoom n Accepted ≡ Refused NoRoom d → (d ≡ n) × (room < n)
-    go true h q = (cc, h tt)
+    go true h q = (sym (ap detail_of q), h tt)
     go false h q = refused_not NoRoom d (sym q)
 
 pub of_room : (n room : ℕ) → room_test n room ≡ Accepted → n ≤ room
@@ -231,15 +225,15 @@ window_pass s w day rest e =
     let on = window_on s w day Accepted e in
     times_pass s w.start w.end 0 _ on.0 ∙ refuse_pass _ _ 0 _ (le→nltb last_day day on.1)
 
--- a refusal of the window's stands for every rest, with detail 0
-pub window_refused : (s : Scale) (w : Window) (day : ℕ) (why : Refusal) (d : ℕ) (rest : Outcome) → window_tests s w day Accepted ≡ Refused why d
-    → window_tests s w day rest ≡ Refused why 0
+-- a refusal of the window's stands for every rest
+pub window_refused : (s : Scale) (w : Window) (day : ℕ) (r : Rejection) (rest : Outcome) → window_tests s w day Accepted ≡ Err r
+    → window_tests s w day rest ≡ Err r
 unfolding window_tests time_tests refuse
-window_refused s w day why d rest e = go (off_ruler s w.start w.end) (backward w.start w.end) (no_such_day day) e
+window_refused s w day r rest e = go (off_ruler s w.start w.end) (backward w.start w.end) (no_such_day day) e
   where
-    go : (a b c : Bool) → refuse a OffRuler 0 (refuse b Backward 0 (refuse c NoSuchDay 0 Accepted)) ≡ Refused why d
-        → refuse a OffRuler 0 (refuse b Backward 0 (refuse c NoSuchDay 0 rest)) ≡ Refused why 0
-    go true b c q = let p : OffRuler ≡ why = cc in rw p
-    go false true c q = let p : Backward ≡ why = cc in rw p
-    go false false true q = let p : NoSuchDay ≡ why = cc in rw p
-    go false false false q = refused_not why d (sym q)
+    go : (a b c : Bool) → refuse a OffRuler 0 (refuse b Backward 0 (refuse c NoSuchDay 0 Accepted)) ≡ Err r
+        → refuse a OffRuler 0 (refuse b Backward 0 (refuse c NoSuchDay 0 rest)) ≡ Err r
+    go true b c q = q
+    go false true c q = q
+    go false false true q = q
+    go false false false q = absurd cc

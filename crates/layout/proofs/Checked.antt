@@ -1,5 +1,6 @@
 -- The tests 1, 3, 8 that each call on an index begins with: where the check of the index is refused, so is the call, for the same reason;
 -- where it passes, the rest of the call's chain decides.
+use Rattle.std.proofs.Common.{Err, Ok}
 use mathlib.Core.Path.{◌≡◌, refl, sym, ap, ◌∙◌}
 use mathlib.Core.Logic.{◌↔◌}
 use mathlib.Core.Bool.{Bool, true, false, not}
@@ -10,8 +11,7 @@ use Rattle.lists.proofs.Tests.{to_T}
 use Rattle.ruler.specs.Ruler.{Scale}
 use Rattle.layout.specs.declared.Refusal.{Refusal}
 use Rattle.layout.specs.declared.Refusal.TheVariants.{RulerOutOfBounds, DirectoryLength, NotAnIndex}
-use Rattle.layout.specs.declared.Outcome.{Outcome}
-use Rattle.layout.specs.declared.Outcome.TheVariants.{Accepted, Refused}
+use Rattle.layout.specs.Outcomes.{Outcome, Accepted, Refused}
 use Rattle.layout.specs.Words.{Index, directory_length}
 use Rattle.layout.specs.Refusals.{refusal_number, number_of, detail_of, refuse, out_of_bounds, bad_directory, is_index, index_tests, check_outcome}
 use Rattle.layout.specs.Calls.{if_accepted}
@@ -53,8 +53,8 @@ pub eight_not-later : (s : Scale) (x : Index) (rest : Outcome) → (number_of re
 eight_not-later s x rest other = (go (check_outcome s x) refl, λ e. refused_for_all s x NotAnIndex 0 e rest)
   where
     go : (o : Outcome) → check_outcome s x ≡ o → index_tests s x rest ≡ Refused NotAnIndex 0 → o ≡ Refused NotAnIndex 0
-    go Accepted e q = absurd (other (ap number_of (sym (passed s x e rest) ∙ q)))
-    go (Refused why d) e q = sym (refused_for_all s x why d e rest) ∙ q
+    go (Ok _) e q = absurd (other (ap number_of (sym (passed s x e rest) ∙ q)))
+    go (Err r) e q = sym (refused_for_all s x r.refusal r.detail e rest) ∙ q
 
 pub other_link : (b : Bool) (why : Refusal) (d : ℕ) (rest : Outcome) → (refusal_number why ≡ refusal_number NotAnIndex → ⊥)
     → (number_of rest ≡ refusal_number NotAnIndex → ⊥) → number_of (refuse b why d rest) ≡ refusal_number NotAnIndex → ⊥

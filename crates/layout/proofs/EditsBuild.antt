@@ -19,8 +19,7 @@ use Rattle.ruler.proofs.Fair.{Fair}
 use Rattle.trip.specs.declared.Trip.{Trip}
 use Rattle.layout.specs.declared.Half.TheVariants.{Originals, Replicas}
 use Rattle.layout.specs.declared.Refusal.TheVariants.{TableSize}
-use Rattle.layout.specs.declared.Outcome.{Outcome}
-use Rattle.layout.specs.declared.Outcome.TheVariants.{Accepted, Refused}
+use Rattle.layout.specs.Outcomes.{Outcome, Accepted, Refused}
 use Rattle.layout.specs.Words.{words, Index, Lengths, lengths_of, layout}
 use Rattle.layout.specs.Refusals.{full, has_id, table_of, is_index, index_tests, add_outcome, remove_outcome}
 use Rattle.layout.specs.Calls.{after, build_of, add_of, without, remove_of}

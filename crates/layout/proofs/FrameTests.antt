@@ -8,8 +8,7 @@ use Rattle.lists.proofs.Tests.{to_T}
 use Rattle.ruler.specs.Ruler.{Scale}
 use Rattle.layout.specs.declared.Refusal.{Refusal}
 use Rattle.layout.specs.declared.Refusal.TheVariants.{RulerOutOfBounds, DirectoryLength}
-use Rattle.layout.specs.declared.Outcome.{Outcome}
-use Rattle.layout.specs.declared.Outcome.TheVariants.{Accepted, Refused}
+use Rattle.layout.specs.Outcomes.{Outcome, Accepted, Refused}
 use Rattle.layout.specs.Words.{directory_length}
 use Rattle.layout.specs.Refusals.{detail_of, refuse, out_of_bounds, bad_directory, frame_tests}
 use Rattle.layout.specs.Calls.{if_accepted}

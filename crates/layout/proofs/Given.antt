@@ -1,4 +1,5 @@
 -- What an index shows is the same for EVERY table that gives its words: the answers, the census, the runs, and so what the calls return.
+use Rattle.std.proofs.Common.{Some}
 use mathlib.Core.Path.{◌≡◌, ap, ◌∙◌, fun_ext}
 use mathlib.Core.Bool.{cond}
 use mathlib.Core.List.{List, map}
@@ -14,14 +15,13 @@ use Rattle.trip.specs.declared.Trip.{Trip}
 use Rattle.trip.specs.declared.Asking.{Asking}
 use Rattle.trip.specs.declared.Question.{Question}
 use Rattle.trip.specs.declared.Relationship.{Relationship}
-use Rattle.trip.specs.declared.Named.TheVariants.{As}
 use Rattle.trip.specs.Relationships.{named, related, holds_by, code_holds}
 use Rattle.trip.specs.Trips.{runs_on}
 use Rattle.trip.proofs.Naming.{named-within}
 use Rattle.layout.specs.declared.Half.{Half}
 use Rattle.layout.specs.declared.Subdivision.{Subdivision}
 use Rattle.layout.specs.declared.Subdivision.TheVariants.{OIn, OAft, RIn, RAft}
-use Rattle.layout.specs.declared.Outcome.TheVariants.{Accepted}
+use Rattle.layout.specs.Outcomes.{Accepted}
 use Rattle.layout.specs.Stored.{partitions_at}
 use Rattle.layout.specs.Words.{entry_words, rows, words, slot_number, slot_trips, entries, Index}
 use Rattle.layout.specs.Answers.{matches, answer, question, answer_by, answer_to, level_count, level_row, census, half_of, is_aft, run_words, run_from}
@@ -98,7 +98,7 @@ module _ (s : Scale) (fair : Fair s) (table : List ℕ) (x : Index) (g : IndexOf
   given_run-from L i d = of_the_two (λ (ts : List Trip). run_from s ts L i d) (λ ts us n e f b. run_from-same s ts us n e f b L i d)
 
   -- a question whose window is on the ruler, and not backward, and whose day trips can have
-  module _ (q : Asking) (r : Relationship) (is : named q.code ≡ As r) where
+  module _ (q : Asking) (r : Relationship) (is : named q.code ≡ Some r) where
     given_ids : answer_to q (table_of s x) ≡ answer (question r q) (rows table)
     unfolding answer_to answer_by
     given_ids = rw is (given_answer (question r q))

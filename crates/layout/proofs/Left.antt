@@ -1,4 +1,5 @@
 -- The words that an accepted build, addition or removal leaves are the index of the new table, in buffers of the same lengths.
+use Rattle.std.proofs.Common.{Some}
 use mathlib.Core.Path.{◌≡◌, refl, sym, ap, subst, ◌∙◌}
 use mathlib.Core.Bool.{Bool, true, false, not}
 use mathlib.Core.List.{List, ◌++◌, Memᴰ as Mem}
@@ -14,8 +15,7 @@ use Rattle.trip.specs.declared.Trip.{Trip}
 use Rattle.trip.specs.declared.Asking.{Asking}
 use Rattle.trip.specs.declared.Relationship.{Relationship}
 use Rattle.trip.specs.Relationships.{named}
-use Rattle.trip.specs.declared.Named.TheVariants.{As}
-use Rattle.layout.specs.declared.Outcome.TheVariants.{Accepted}
+use Rattle.layout.specs.Outcomes.{Accepted}
 use Rattle.layout.specs.Words.{trip_words, words, rows, Index, lengths_of, layout}
 use Rattle.layout.specs.Answers.{matches, answer, question}
 use Rattle.layout.specs.Refusals.{has_id, window_tests, build_outcome, IndexOf, table_of, add_outcome, remove_outcome}
@@ -87,7 +87,7 @@ module _ (s : Scale) (fair : Fair s) (table : List ℕ) (x : Index) (g : IndexOf
 
 -- ---- a question to the index that a build has left, whatever the buffers
 
-pub built_asked : (n : Numbers) (ts : List Trip) (r : Relationship) (a : Asking) (ids : List ℕ) → named a.code ≡ As r
+pub built_asked : (n : Numbers) (ts : List Trip) (r : Relationship) (a : Asking) (ids : List ℕ) → named a.code ≡ Some r
     → window_tests (scale_of n) a.window a.day Accepted ≡ Accepted → answer (question r a) ts ≡ ids → (x : Index) (list : List ℕ)
     → (build_of (scale_of n) (words ts) x).outcome ≡ Accepted → length ids ≤ length list
     → ask_of (scale_of n) (build_of (scale_of n) (words ts) x).words a list ≡ asked Accepted (length ids) (over ids list)

@@ -6,6 +6,7 @@ pub mod Numbers
 pub mod ByLevel
 pub mod MostPartitions
 pub mod RulerCells
+pub mod RulerIf
 -- words, rows and slots
 pub mod Rows
 pub mod RowParts

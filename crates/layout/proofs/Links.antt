@@ -1,4 +1,6 @@
 -- A chain of refusals and what comes after it: the chain's own refusal stands for every rest, and else the rest decides.
+use Rattle.std.proofs.Common.{Err, Ok}
+use Rattle.std.specs.Result.{is_ok}
 use mathlib.Core.Path.{◌≡◌, refl, sym, ap, ◌∙◌}
 use mathlib.Core.Bool.{Bool, true, false, true≢false, false≢true}
 use mathlib.Core.List.{List, [], ◌∷◌}
@@ -7,8 +9,7 @@ use Rattle.ruler.specs.declared.Time.{Time}
 use Rattle.ruler.specs.Ruler.{Scale}
 use Rattle.trip.specs.declared.Trip.{Trip}
 use Rattle.layout.specs.declared.Refusal.{Refusal}
-use Rattle.layout.specs.declared.Outcome.{Outcome}
-use Rattle.layout.specs.declared.Outcome.TheVariants.{Accepted, Refused}
+use Rattle.layout.specs.Outcomes.{Outcome, Accepted}
 use Rattle.layout.specs.Words.{Index}
 use Rattle.layout.specs.Refusals.{is_accepted, refuse, time_tests, row_tests_by, row_tests, first_bad_row, frame_tests, index_tests, check_outcome}
 use Rattle.layout.specs.Calls.{if_accepted, after, leaving}
@@ -19,25 +20,30 @@ and_then first rest = if_accepted first rest first
 
 pub then_refused : (o rest : Outcome) → is_accepted o ≡ false → and_then o rest ≡ o
 unfolding if_accepted is_accepted
-then_refused Accepted rest e = absurd (true≢false e)
-then_refused (Refused why d) rest e = refl
+then_refused (Ok _) rest e = absurd (true≢false e)
+then_refused (Err r) rest e = refl
 
 pub then_accepted : (o rest : Outcome) → is_accepted o ≡ true → and_then o rest ≡ rest
 unfolding if_accepted is_accepted
-then_accepted Accepted rest e = refl
-then_accepted (Refused why d) rest e = absurd (false≢true e)
+then_accepted (Ok _) rest e = refl
+then_accepted (Err r) rest e = absurd (false≢true e)
 
 -- an outcome that is no refusal
 pub is-accepted : (o : Outcome) → is_accepted o ≡ true → o ≡ Accepted
 unfolding is_accepted
-is-accepted Accepted e = refl
-is-accepted (Refused why d) e = absurd (false≢true e)
+is-accepted (Ok _) e = refl
+is-accepted (Err r) e = absurd (false≢true e)
+
+pub is_ok_lem : (o : Outcome) → is_ok o ≡ is_accepted o
+unfolding is_accepted
+is_ok_lem (Ok _) = refl
+is_ok_lem (Err r) = refl
 
 -- a call that writes, by its outcome: refused, it leaves the words that it found; accepted, those that it made
 pub leaves_found : (o : Outcome) {said : Outcome} (x y : Index) → is_accepted o ≡ false → o ≡ said → after o x ≡ leaving said x y
 unfolding leaving if_accepted is_accepted
-leaves_found Accepted x y e q = absurd (true≢false e)
-leaves_found (Refused why d) x y e q = rw (← q)
+leaves_found (Ok _) x y e q = absurd (true≢false e)
+leaves_found (Err r) x y e q = rw (← q)
 
 pub leaves_made : {said : Outcome} (x y : Index) {z : Index} → said ≡ Accepted → z ≡ y → after Accepted z ≡ leaving said x y
 unfolding leaving if_accepted
@@ -45,8 +51,8 @@ leaves_made x y e q = rw (e, q)
 
 then_then : (a b c : Outcome) → and_then (and_then a b) c ≡ and_then a (and_then b c)
 unfolding if_accepted
-then_then Accepted b c = refl
-then_then (Refused why d) b c = refl
+then_then (Ok _) b c = refl
+then_then (Err r) b c = refl
 
 -- ---- the chains
 

@@ -16,7 +16,7 @@ use Rattle.lists.proofs.Members.{In, none, more}
 use Rattle.ruler.specs.Ruler.{Scale}
 use Rattle.trip.specs.declared.Trip.{Trip}
 use Rattle.layout.specs.declared.Half.TheVariants.{Originals, Replicas}
-use Rattle.layout.specs.declared.Outcome.TheVariants.{Accepted}
+use Rattle.layout.specs.Outcomes.{Accepted}
 use Rattle.layout.specs.Words.{entry_words, rows, Reordered, Index, lengths_of}
 use Rattle.layout.specs.Calls.{after, leaving, build_of, without}
 use Rattle.layout.proofs.RowOrder.{OtherId, Distinct, entries-same, layout-same}

@@ -4,12 +4,13 @@ use mathlib.Core.List.{List, [], ◌∷◌}
 use Prim.Native.Nat.{ℕ}
 use lib.Dec.{T}
 use Rattle.lists.specs.Lists.{every, same, count, padded, keep, insert, sort, joined, up_to, over}
-use Rattle.ruler.specs.Ruler.{in_bounds, scale_of, cell_up, judge, numbers_of}
+use Rattle.ruler.specs.Ruler.{in_bounds, scale_of, cell_up, numbers_of}
+use Rattle.ruler.specs.Made.{judge}
 use Rattle.trip.specs.declared.Relationship.TheVariants.{GOverlaps}
 use Rattle.trip.specs.Relationships.{code_of, related}
 use Rattle.trip.specs.Trips.{runs_on, never_runs, window_of, asking_of}
 use Rattle.trip.proofs.Codes.{named_code}
-use Rattle.layout.specs.declared.Outcome.TheVariants.{Accepted}
+use Rattle.layout.specs.Outcomes.{Accepted}
 use Rattle.layout.specs.Stored.{partitions_at, first_cell, last_cell, within, holds, holds_trip, is_original, is_in, subdivision_of, is_of, belongs}
 use Rattle.layout.specs.Words.{trip_words, trip_at, words, rows, partitions, directory_length, half_length, partition_number, level_of, place_of, partitions_holding, slot_number, by_id, by_start, by_end, order, slot_trips, slot, entries_before, entries, directory_half, arena, lengths_of, layout}
 use Rattle.layout.specs.Answers.{matches, answer, question, answer_by, answer_to, subdivision_number, subdivision_numbered, level_count, level_row, census, half_of, is_aft, run_words, run_from}

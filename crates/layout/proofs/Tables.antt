@@ -10,8 +10,7 @@ use lib.ListN.{length}
 use Rattle.lists.proofs.Members.{none, more}
 use Rattle.ruler.specs.Ruler.{Scale, most_trips}
 use Rattle.trip.specs.declared.Trip.{Trip}
-use Rattle.layout.specs.declared.Outcome.{Outcome}
-use Rattle.layout.specs.declared.Outcome.TheVariants.{Accepted}
+use Rattle.layout.specs.Outcomes.{Outcome, Accepted}
 use Rattle.layout.specs.Words.{entry_words, words, rows, directory_length, Lengths}
 use Rattle.layout.specs.Refusals.{row_tests_by, row_tests, first_bad_row, build_outcome, Fits}
 use Rattle.layout.proofs.RowOrder.{OtherId, Distinct}

@@ -12,7 +12,7 @@ use Rattle.ruler.proofs.Fair.{Fair}
 use Rattle.trip.specs.declared.Asking.{Asking}
 use Rattle.layout.specs.declared.Half.TheVariants.{Originals}
 use Rattle.layout.specs.declared.Refusal.TheVariants.{NoRelationship}
-use Rattle.layout.specs.declared.Outcome.TheVariants.{Accepted}
+use Rattle.layout.specs.Outcomes.{Accepted}
 use Rattle.layout.specs.Words.{entry_words, words, rows, Reordered, partitions, directory_length, entries, Index, lengths_of}
 use Rattle.layout.specs.Answers.{answer_to}
 use Rattle.layout.specs.Refusals.{IndexOf, table_of, refuse, no_such_code, window_tests, question_tests, room_test, ask_outcome}

@@ -8,8 +8,7 @@ use Rattle.lists.proofs.Tests.{of_nor}
 use Rattle.ruler.specs.Ruler.{Scale}
 use Rattle.layout.specs.declared.Refusal.{Refusal}
 use Rattle.layout.specs.declared.Refusal.TheVariants.{NoSuchSlot}
-use Rattle.layout.specs.declared.Outcome.{Outcome}
-use Rattle.layout.specs.declared.Outcome.TheVariants.{Accepted, Refused}
+use Rattle.layout.specs.Outcomes.{Outcome, Accepted, Refused}
 use Rattle.layout.specs.Stored.{partitions_at}
 use Rattle.layout.specs.Words.{Index}
 use Rattle.layout.specs.Answers.{last_subdivision, subdivision_numbered, census, run_words, run_from}

@@ -1,13 +1,11 @@
 -- Document 01, "Relationships", what a question, the census and a run of a table give, as definitions.
-use Rattle.std.specs.Prelude.{Bool, true, false, cond, ◌&&◌, List, [], ◌∷◌, map, ℕ, suc, ◌*◌, leb, length, get_or}
+use Rattle.std.specs.Prelude.{Bool, true, false, cond, ◌&&◌, List, [], ◌∷◌, map, ℕ, suc, ◌*◌, leb, length, get_or, None, Option, Some}
 use Rattle.lists.specs.Lists.{keep, ascending, joined, up_to}
 use Rattle.ruler.specs.Ruler.{Scale, deepest}
 use Rattle.trip.specs.declared.Trip.{Trip}
 use Rattle.trip.specs.declared.Asking.{Asking}
 use Rattle.trip.specs.declared.Question.{Question}
 use Rattle.trip.specs.declared.Relationship.{Relationship}
-use Rattle.trip.specs.declared.Named.{Named}
-use Rattle.trip.specs.declared.Named.TheVariants.{As, Nothing}
 use Rattle.trip.specs.Relationships.{named, related}
 use Rattle.trip.specs.Trips.{runs_on}
 use Rattle.layout.specs.declared.Half.{Half}
@@ -32,9 +30,9 @@ answer q ts = ascending (map (λ (t : Trip). t.id) (matches q ts))
 abbrev pub question : Relationship → Asking → Question
 question r q = record { window = q.window; relationship = r; day = q.day }
 
-unfoldable pub answer_by : Named → Asking → List Trip → List ℕ
-answer_by (As r) q ts = answer (question r q) ts
-answer_by Nothing q ts = []
+unfoldable pub answer_by : Option Relationship → Asking → List Trip → List ℕ
+answer_by (Some r) q ts = answer (question r q) ts
+answer_by None q ts = []
 
 unfoldable pub answer_to : Asking → List Trip → List ℕ
 answer_to q ts = answer_by (named q.code) q ts

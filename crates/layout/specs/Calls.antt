@@ -1,13 +1,12 @@
 -- Document 01, what each call returns and leaves, accepted or refused. "A refusal returns its number and one detail (0 unless named),
 -- and every buffer stays as found; any count that a refused call gives is 0. A refused run shows an empty part; a refused census is
 -- all zeros."
-use Rattle.std.specs.Prelude.{not, List, [], ◌∷◌, ℕ, suc, eqb, length, replicate}
+use Rattle.std.specs.Prelude.{not, List, [], ◌∷◌, ℕ, suc, eqb, length, replicate, Err, Ok}
 use Rattle.lists.specs.Lists.{keep, over}
 use Rattle.ruler.specs.Ruler.{Scale, deepest}
 use Rattle.trip.specs.declared.Trip.{Trip}
 use Rattle.trip.specs.declared.Asking.{Asking}
-use Rattle.layout.specs.declared.Outcome.{Outcome}
-use Rattle.layout.specs.declared.Outcome.TheVariants.{Accepted, Refused}
+use Rattle.layout.specs.Outcomes.{Outcome}
 use Rattle.layout.specs.Words.{rows, Index, lengths_of, layout}
 use Rattle.layout.specs.Answers.{answer_to, last_subdivision, subdivision_numbered, census, run_words, run_from}
 use Rattle.layout.specs.Refusals.{table_of, build_outcome, add_outcome, remove_outcome, ask_outcome, run_outcome, check_outcome}
@@ -15,8 +14,8 @@ use Rattle.layout.specs.Refusals.{table_of, build_outcome, add_outcome, remove_o
 module _ {A : Type 0} where
   -- what an accepted call gives, or what a refused one does
   unfoldable pub if_accepted : Outcome → (given else : A) → A
-  if_accepted Accepted given else = given
-  if_accepted (Refused why detail) given else = else
+  if_accepted (Ok _) given else = given
+  if_accepted (Err r) given else = else
 
 -- the words of an index as lists
 abbrev pub index : (directory originals replicas : List ℕ) → Index

@@ -11,8 +11,7 @@ use Rattle.trip.specs.Relationships.{code_of}
 use Rattle.trip.specs.Trips.{trip_of, window_of, asking_of}
 use Rattle.layout.specs.declared.Subdivision.{Subdivision}
 use Rattle.layout.specs.declared.Subdivision.TheVariants.{OIn, OAft, RIn, RAft}
-use Rattle.layout.specs.declared.Outcome.{Outcome}
-use Rattle.layout.specs.declared.Outcome.TheVariants.{Accepted}
+use Rattle.layout.specs.Outcomes.{Outcome, Accepted}
 use Rattle.layout.specs.Stored.{belongs}
 use Rattle.layout.specs.Words.{entry_words, Index, Lengths, words, directory_length, partitions_holding, layout}
 use Rattle.layout.specs.Refusals.{number_of, detail_of, full, build_outcome, window_tests, ask_outcome, check_outcome}

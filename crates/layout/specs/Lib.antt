@@ -1,4 +1,5 @@
 -- Document 01 as definitions, in its order.
+pub mod Outcomes
 pub mod Stored
 pub mod Words
 pub mod Answers

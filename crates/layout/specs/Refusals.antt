@@ -1,6 +1,6 @@
 -- Document 01, "Numbers of refusal", as definitions: the numbers, when each is given, and the order of each call; without number 11, which document
 -- 02 struck (T-06), and with 16 and 17, which it added (T-07). Every test is a Bool and computes.
-use Rattle.std.specs.Prelude.{◌≡◌, Bool, true, false, not, ◌&&◌, ◌||◌, List, [], ◌∷◌, ℕ, suc, ◌*◌, ◌/◌, ◌%◌, ◌≤◌, T, leb, ltb, eqb, length, get_or, take}
+use Rattle.std.specs.Prelude.{◌≡◌, Bool, true, false, not, ◌&&◌, ◌||◌, List, [], ◌∷◌, ℕ, suc, ◌*◌, ◌/◌, ◌%◌, ◌≤◌, T, leb, ltb, eqb, length, get_or, take, Err, Ok}
 use Rattle.lists.specs.Lists.{same}
 use Rattle.ruler.specs.declared.Time.{Time}
 use Rattle.ruler.specs.Ruler.{Scale, most_trips, before}
@@ -12,8 +12,7 @@ use Rattle.trip.specs.Trips.{last_day, never_runs}
 use Rattle.layout.specs.declared.Half.TheVariants.{Originals, Replicas}
 use Rattle.layout.specs.declared.Refusal.{Refusal}
 use Rattle.layout.specs.declared.Refusal.TheVariants.{RulerOutOfBounds, TableSize, DirectoryLength, OffRuler, Backward, IdTaken, NoRoom, NotAnIndex, NoRelationship, NoSuchId, NoSuchSlot, NoDays, NoSuchDay}
-use Rattle.layout.specs.declared.Outcome.{Outcome}
-use Rattle.layout.specs.declared.Outcome.TheVariants.{Accepted, Refused}
+use Rattle.layout.specs.Outcomes.{Outcome, Accepted, Refused}
 use Rattle.layout.specs.Stored.{partitions_at}
 use Rattle.layout.specs.Words.{entry_words, words, rows, partitions, directory_length, entries, Index, Lengths, lengths_of, layout}
 use Rattle.layout.specs.Answers.{answer_to, last_subdivision}
@@ -36,16 +35,16 @@ refusal_number NoSuchDay = 17
 
 -- "An accepted call returns number 0 and detail 0. A refusal returns its number and one detail (0 unless named)"
 abbrev pub number_of : Outcome → ℕ
-number_of Accepted = 0
-number_of (Refused why detail) = refusal_number why
+number_of (Ok _) = 0
+number_of (Err r) = refusal_number r.refusal
 
 abbrev pub detail_of : Outcome → ℕ
-detail_of Accepted = 0
-detail_of (Refused why detail) = detail
+detail_of (Ok _) = 0
+detail_of (Err r) = r.detail
 
 unfoldable pub is_accepted : Outcome → Bool
-is_accepted Accepted = true
-is_accepted (Refused why detail) = false
+is_accepted (Ok _) = true
+is_accepted (Err r) = false
 
 -- One link of a chain: the refusal where its test passes, and else what the links after it say.
 unfoldable pub refuse : Bool → Refusal → (detail : ℕ) → (rest : Outcome) → Outcome

@@ -4,10 +4,11 @@
 pub mod directory;
 
 ghost use Rattle.std.specs.Prelude.{◌≡◌, true};
-ghost use Rattle.ruler.specs.Ruler.{Made, scale};
+ghost use Rattle.ruler.specs.Made.{scale};
 ghost use Rattle.layout.specs.Stored.{subdivision_of};
 ghost use Rattle.layout.specs.Words.{entry_words};
-ghost use Rattle.layout.specs.Refusals.{refusal_number, number_of, detail_of, is_accepted, time_tests, row_tests_by, window_tests};
+ghost use Rattle.layout.specs.Outcomes.{Accepted, rejection};
+ghost use Rattle.layout.specs.Refusals.{refusal_number, number_of, detail_of, time_tests, row_tests_by, window_tests};
 
 use ruler::{Ruler, Time};
 use trip::{LAST_DAY, Trip, Window};
@@ -28,7 +29,7 @@ pub enum Subdivision {
 }
 
 // Why a call is refused, in the order of the paper's numbers: 1 to 10, 12, 16 and 17.
-#[derive(Clone, Copy)]
+#[derive(Clone, Copy, Debug, PartialEq, Eq)]
 pub enum Refusal {
     RulerOutOfBounds,
     TableSize,
@@ -45,11 +46,30 @@ pub enum Refusal {
     NoSuchDay,
 }
 
-// What a call answers.
-#[derive(Clone, Copy)]
-pub enum Outcome {
-    Accepted,
-    Refused { refusal: Refusal, detail: u32 },
+// A refusal with its detail: the row that decides, or the matches; 0 where the paper names none.
+#[derive(Clone, Copy, Debug, PartialEq, Eq)]
+pub struct Rejection {
+    pub refusal: Refusal,
+    pub detail: u32,
+}
+
+impl Refusal {
+    pub fn with_detail(self, detail: u32) -> Rejection
+        ensures { result ≡ rejection self detail }
+    {
+        Rejection {
+            refusal: self,
+            detail,
+        }
+    }
+}
+
+impl From<Refusal> for Rejection {
+    ghost from_gives = { λ why r. r ≡ rejection why 0 };
+
+    fn from(refusal: Refusal) -> Rejection {
+        refusal.with_detail(0)
+    }
 }
 
 // The words of a table row and of an index entry.
@@ -63,130 +83,99 @@ pub fn entry_words() -> usize
 }
 
 // The subdivision of a half's "in" or "aft" entries.
+#[tactic(auto, unfolding(crate::specs::Stored::subdivision_of))]
 pub fn subdivision_of(half: Half, aft: bool) -> Subdivision
     ensures { result ≡ subdivision_of half aft }
 {
-    match half {
-        Half::Originals => {
-            if aft {
-                return Subdivision::OAft;
-            }
-            Subdivision::OIn
-        }
-        Half::Replicas => {
-            if aft {
-                return Subdivision::RAft;
-            }
-            Subdivision::RIn
-        }
+    match (half, aft) {
+        (Half::Originals, false) => Subdivision::OIn,
+        (Half::Originals, true) => Subdivision::OAft,
+        (Half::Replicas, false) => Subdivision::RIn,
+        (Half::Replicas, true) => Subdivision::RAft,
     }
 }
 
 // The paper's number of a refusal.
-pub fn refusal_number(refusal: Refusal) -> u32
-    ensures { result ≡ refusal_number refusal }
-{
-    match refusal {
-        Refusal::RulerOutOfBounds => 1,
-        Refusal::TableSize => 2,
-        Refusal::DirectoryLength => 3,
-        Refusal::OffRuler => 4,
-        Refusal::Backward => 5,
-        Refusal::IdTaken => 6,
-        Refusal::NoRoom => 7,
-        Refusal::NotAnIndex => 8,
-        Refusal::NoRelationship => 9,
-        Refusal::NoSuchId => 10,
-        Refusal::NoSuchSlot => 12,
-        Refusal::NoDays => 16,
-        Refusal::NoSuchDay => 17,
+impl From<Refusal> for u32 {
+    ghost from_gives = { λ why n. n ≡ refusal_number why };
+
+    fn from(refusal: Refusal) -> u32 {
+        match refusal {
+            Refusal::RulerOutOfBounds => 1,
+            Refusal::TableSize => 2,
+            Refusal::DirectoryLength => 3,
+            Refusal::OffRuler => 4,
+            Refusal::Backward => 5,
+            Refusal::IdTaken => 6,
+            Refusal::NoRoom => 7,
+            Refusal::NotAnIndex => 8,
+            Refusal::NoRelationship => 9,
+            Refusal::NoSuchId => 10,
+            Refusal::NoSuchSlot => 12,
+            Refusal::NoDays => 16,
+            Refusal::NoSuchDay => 17,
+        }
     }
 }
 
-// The paper's number of an outcome.
-pub fn number_of(outcome: Outcome) -> u32
+// The paper's number of what a call answers.
+pub fn number_of(outcome: Result<(), Rejection>) -> u32
     ensures { result ≡ number_of outcome }
 {
     match outcome {
-        Outcome::Accepted => 0,
-        Outcome::Refused { refusal, detail: _ } => refusal_number(refusal),
+        Ok(()) => 0,
+        Err(rejection) => u32::from(rejection.refusal),
     }
 }
 
-// The paper's detail of an outcome.
-pub fn detail_of(outcome: Outcome) -> u32
+// And its detail.
+pub fn detail_of(outcome: Result<(), Rejection>) -> u32
     ensures { result ≡ detail_of outcome }
 {
     match outcome {
-        Outcome::Accepted => 0,
-        Outcome::Refused { refusal: _, detail } => detail,
+        Ok(()) => 0,
+        Err(rejection) => rejection.detail,
     }
-}
-
-pub fn is_accepted(outcome: Outcome) -> bool
-    ensures { result ≡ is_accepted outcome }
-{
-    match outcome {
-        Outcome::Accepted => true,
-        Outcome::Refused {
-            refusal: _,
-            detail: _,
-        } => false,
-    }
-}
-
-// A refusal. Its detail is 0 unless the paper names another: the row that decides, or the matches.
-pub fn refused(refusal: Refusal, detail: u32) -> Outcome
-    ensures { result ≡ Outcome.Refused refusal detail }
-{
-    Outcome::Refused { refusal, detail }
 }
 
 // The tests 4 and 5 of a trip's times or of a window's.
-pub fn time_outcome(ruler: Ruler, start: Time, end: Time, detail: u32) -> Outcome
-    requires { Made ruler }
-    ensures { result ≡ time_tests (scale ruler) start end detail Outcome.Accepted }
+#[tactic(auto, unfolding(crate::specs::Refusals::time_tests, crate::specs::Refusals::off_ruler, crate::specs::Refusals::backward, crate::specs::Refusals::refuse))]
+pub fn time_outcome(ruler: Ruler, start: Time, end: Time, detail: u32) -> Result<(), Rejection>
+    ensures { result ≡ time_tests (scale ruler) start end detail Accepted }
 {
     let off_ruler = !(ruler.has(start) & ruler.has(end));
-    let backward = end.before(start);
     if off_ruler {
-        return refused(Refusal::OffRuler, detail);
+        return Err(Refusal::OffRuler.with_detail(detail));
     }
-    if backward {
-        return refused(Refusal::Backward, detail);
+    if end < start {
+        return Err(Refusal::Backward.with_detail(detail));
     }
-    Outcome::Accepted
+    Ok(())
 }
 
 // The tests 4, 5, 6 and 16 of a trip, by whether its id is taken.
-pub fn row_outcome(ruler: Ruler, t: Trip, taken: bool, detail: u32) -> Outcome
-    requires { Made ruler }
-    ensures { result ≡ row_tests_by (scale ruler) taken t detail Outcome.Accepted }
+#[tactic(auto, unfolding(crate::specs::Refusals::row_tests_by, crate::specs::Refusals::time_tests, crate::specs::Refusals::refuse))]
+pub fn row_outcome(ruler: Ruler, t: Trip, taken: bool, detail: u32) -> Result<(), Rejection>
+    ensures { result ≡ row_tests_by (scale ruler) taken t detail Accepted }
 {
-    let times = time_outcome(ruler, t.start, t.end, detail);
-    if !is_accepted(times) {
-        return times;
-    }
+    time_outcome(ruler, t.start, t.end, detail)?;
     if taken {
-        return refused(Refusal::IdTaken, detail);
+        return Err(Refusal::IdTaken.with_detail(detail));
     }
     if t.never_runs() {
-        return refused(Refusal::NoDays, detail);
+        return Err(Refusal::NoDays.with_detail(detail));
     }
-    Outcome::Accepted
+    Ok(())
 }
 
 // The tests 4 and 5 of a window, and 17 of a day.
-pub fn window_outcome(ruler: Ruler, window: Window, day: u32) -> Outcome
-    requires { Made ruler }
-    ensures { result ≡ window_tests (scale ruler) window day Outcome.Accepted }
+#[tactic(auto, unfolding(crate::specs::Refusals::window_tests, crate::specs::Refusals::time_tests, crate::specs::Refusals::no_such_day, crate::specs::Refusals::refuse))]
+pub fn window_outcome(ruler: Ruler, window: Window, day: u32) -> Result<(), Rejection>
+    ensures { result ≡ window_tests (scale ruler) window day Accepted }
 {
-    let times = time_outcome(ruler, window.start, window.end, 0);
-    if !is_accepted(times) {
-        return times;
-    }
+    time_outcome(ruler, window.start, window.end, 0)?;
     if LAST_DAY < day {
-        return refused(Refusal::NoSuchDay, 0);
+        return Err(Refusal::NoSuchDay.into());
     }
-    Outcome::Accepted
+    Ok(())
 }

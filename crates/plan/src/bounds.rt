@@ -13,11 +13,11 @@ pub struct Span {
 }
 
 impl Span {
+    #[tactic(auto, unfolding(crate::specs::Bounds::has))]
     pub fn has(self, t: Time) -> bool
         ensures { result ≡ has self t }
     {
-        let from = self.from;
-        from.no_later(t) & t.before(self.until)
+        (self.from <= t) & (t < self.until)
     }
 
     fn exactly(t: Time) -> Span
@@ -113,12 +113,11 @@ impl Bounds {
         Bounds { start, end }
     }
 
+    #[tactic(auto, unfolding(crate::specs::Bounds::inside))]
     pub fn hold(self, t: Trip) -> bool
         ensures { result ≡ inside self t }
     {
-        let start = self.start;
-        let end = self.end;
-        start.has(t.start) & end.has(t.end)
+        self.start.has(t.start) & self.end.has(t.end)
     }
 }
 
@@ -139,8 +138,8 @@ pub fn bounds_of(relationship: Relationship, q: Window) -> Bounds
         Relationship::StartedBy => Bounds::new(Span::exactly(s), Span::earlier(e)),
         Relationship::Finishes => Bounds::new(Span::earlier(s), Span::exactly(e)),
         Relationship::FinishedBy => Bounds::new(Span::later(s), Span::exactly(e)),
-        Relationship::Meets => Bounds::new(Span::exactly_if(s.before(e), e), Span::later(e)),
-        Relationship::MetBy => Bounds::new(Span::earlier(s), Span::exactly_if(s.before(e), s)),
+        Relationship::Meets => Bounds::new(Span::exactly_if(s < e, e), Span::later(e)),
+        Relationship::MetBy => Bounds::new(Span::earlier(s), Span::exactly_if(s < e, s)),
         Relationship::Overlaps => Bounds::new(Span::between(s, e), Span::later(e)),
         Relationship::OverlappedBy => Bounds::new(Span::earlier(s), Span::between(s, e)),
         Relationship::Contains => Bounds::new(Span::later(s), Span::earlier(e)),

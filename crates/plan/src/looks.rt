@@ -66,6 +66,8 @@ fn back_of(stretch: Stretch) -> Stretch
 }
 
 // Look k of a level: the first partition, what is between, the last partition, the replicas.
+// Looks are numbered and made one at a time: a list of them needs more stack and steps.
+#[tactic(auto, unfolding(crate::specs::Looks::look_at))]
 pub fn look_at(level: Stretches, k: usize) -> Look
     ensures { result ≡ look_at level k }
 {

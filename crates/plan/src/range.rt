@@ -1,8 +1,8 @@
 // A plan is a range of level-m cells and the kind of entries looked at over it. The fourteen relationships differ in data only.
 ghost use Rattle.std.specs.Prelude.{◌≡◌, true};
-ghost use Rattle.ruler.specs.Ruler.{Made, scale};
+ghost use Rattle.ruler.specs.Made.{scale};
 ghost use Rattle.layout.specs.Refusals.{OnRuler};
-ghost use Rattle.plan.specs.Plan.{plan, plan_of, plan_for};
+ghost use Rattle.plan.specs.Plan.{original_slots, replica_slots, plan, plan_of, plan_for};
 
 use ruler::{Cell, Ruler, power};
 use trip::{Relationship, Window};
@@ -15,6 +15,29 @@ pub enum Kind {
     Ending,
     // The originals of the range's partitions, and the replicas of the first of them.
     Crossing,
+}
+
+impl Kind {
+    // How many slots of the range's last partition are looked at among the originals: "in" alone, or "in" and "aft".
+    pub(crate) fn original_slots(self) -> usize
+        ensures { result ≡ original_slots self }
+    {
+        match self {
+            Kind::Starting | Kind::Crossing => 2,
+            Kind::Ending => 1,
+        }
+    }
+
+    // And how many of its first partition among the replicas.
+    pub(crate) fn replica_slots(self) -> usize
+        ensures { result ≡ replica_slots self }
+    {
+        match self {
+            Kind::Starting => 0,
+            Kind::Ending => 1,
+            Kind::Crossing => 2,
+        }
+    }
 }
 
 // Where the plan is quick, a trip that ends after the first cell and starts before the last one matches, untested.
@@ -44,17 +67,17 @@ fn plan_of(relationship: Relationship, f: Cell, l: Cell, first: Cell, last: Cell
     ensures { result ≡ plan_of relationship f l first last }
 {
     match relationship {
-        Relationship::Equals => Plan::new(Kind::Starting, f, f),
-        Relationship::Starts => Plan::new(Kind::Starting, f, f),
-        Relationship::StartedBy => Plan::new(Kind::Starting, f, f),
-        Relationship::Finishes => Plan::new(Kind::Ending, l, l),
-        Relationship::FinishedBy => Plan::new(Kind::Ending, l, l),
+        Relationship::Equals | Relationship::Starts | Relationship::StartedBy => Plan::new(
+            Kind::Starting,
+            f,
+            f,
+        ),
+        Relationship::Finishes | Relationship::FinishedBy => Plan::new(Kind::Ending, l, l),
         Relationship::Meets => Plan::new(Kind::Starting, l, l),
         Relationship::MetBy => Plan::new(Kind::Ending, f, f),
         Relationship::Overlaps => Plan::new(Kind::Crossing, l, l),
-        Relationship::OverlappedBy => Plan::new(Kind::Crossing, f, f),
+        Relationship::OverlappedBy | Relationship::ContainedBy => Plan::new(Kind::Crossing, f, f),
         Relationship::Contains => Plan::new(Kind::Starting, f, l),
-        Relationship::ContainedBy => Plan::new(Kind::Crossing, f, f),
         Relationship::Before => Plan::new(Kind::Starting, l, last),
         Relationship::After => Plan::new(Kind::Starting, first, f),
         Relationship::GOverlaps => Plan {
@@ -67,9 +90,9 @@ fn plan_of(relationship: Relationship, f: Cell, l: Cell, first: Cell, last: Cell
 }
 
 // The plan of a question on a ruler.
+#[tactic(auto, unfolding(crate::specs::Plan::plan_for))]
 pub fn plan_for(ruler: Ruler, relationship: Relationship, q: Window) -> Plan
-    requires made { Made ruler }
-    requires on_ruler { OnRuler (scale ruler) q.start q.end }
+    requires { OnRuler (scale ruler) q.start q.end }
     ensures { result ≡ plan_for (scale ruler) relationship q }
 {
     let m = ruler.bottom();

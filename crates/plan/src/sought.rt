@@ -17,6 +17,7 @@ pub struct Sought {
 
 impl Sought {
     // Whether a trip is sought. One that is sure to be within the bounds is not tested for them: in a loop over such trips the compiler leaves that out.
+    #[tactic(auto, unfolding(crate::specs::Sought::is_sought))]
     pub fn has(self, sure: bool, t: Trip) -> bool
         ensures { result ≡ is_sought self sure t }
     {
@@ -24,8 +25,7 @@ impl Sought {
         if sure {
             return runs;
         }
-        let bounds = self.bounds;
-        bounds.hold(t) & runs
+        self.bounds.hold(t) & runs
     }
 }
 
@@ -33,10 +33,8 @@ pub fn sought_by(q: Question) -> Sought
     requires { (q.window.start.0 < far) × (q.window.end.0 < far) × (q.day ≤ last_day) }
     ensures { result ≡ sought_by q }
 {
-    let relationship = q.relationship;
-    let window = q.window;
     Sought {
-        bounds: bounds_of(relationship, window),
+        bounds: bounds_of(q.relationship, q.window),
         days: power(q.day),
     }
 }

@@ -2,35 +2,14 @@
 ghost use Rattle.std.specs.Prelude.{◌≡◌, ◌^◌, ◌<◌, ◌≤◌};
 ghost use Rattle.ruler.specs.Ruler.{deepest};
 ghost use Rattle.layout.specs.Words.{half_length};
-ghost use Rattle.plan.specs.Plan.{Ranged, original_slots, replica_slots, slot_at, sure_first, sure_last, stretch, arranged, stretches_at};
+ghost use Rattle.plan.specs.Plan.{Ranged, slot_at, sure_first, sure_last, stretch, arranged, stretches_at};
 
-use crate::range::{Kind, Plan};
+use crate::range::Plan;
 use layout::directory::half_length;
 use ruler::Cell;
 
-// How many slots of the range's last partition are looked at among the originals: "in" alone, or "in" and "aft".
-fn original_slots(kind: Kind) -> usize
-    ensures { result ≡ original_slots kind }
-{
-    match kind {
-        Kind::Starting => 2,
-        Kind::Ending => 1,
-        Kind::Crossing => 2,
-    }
-}
-
-// And how many of its first partition among the replicas.
-fn replica_slots(kind: Kind) -> usize
-    ensures { result ≡ replica_slots kind }
-{
-    match kind {
-        Kind::Starting => 0,
-        Kind::Ending => 1,
-        Kind::Crossing => 2,
-    }
-}
-
 // The first slot, in its half, of the partition of a level in which a cell lies.
+#[tactic(auto, using(ruler::proofs::CellLevels::up_lt), unfolding(crate::specs::Plan::first_slot, layout::specs::Words::partition_number))]
 fn slot_at(cell: Cell, level: u32) -> usize
     requires { (level ≤ cell.0) × (cell.0 ≤ deepest) × (cell.1 < 2 ^ cell.0) }
     ensures { result ≡ slot_at cell level }
@@ -39,24 +18,23 @@ fn slot_at(cell: Cell, level: u32) -> usize
 }
 
 // Whether a trip in the first partition is known to end after the first cell: that cell is not the partition's last.
+#[tactic(auto, unfolding(crate::specs::Plan::sure_first))]
 fn sure_first(plan: Plan, level: u32) -> bool
     requires ranged { Ranged plan.low.0 plan }
     requires level_le_low { level ≤ plan.low.0 }
     ensures { result ≡ sure_first plan level }
 {
-    let low = plan.low;
-    let after = low.next();
-    plan.quick & !after.begins(level)
+    plan.quick & !plan.low.next().begins(level)
 }
 
 // Whether a trip in the last partition is known to start before the last cell: that cell is not the partition's first.
+#[tactic(auto, unfolding(crate::specs::Plan::sure_last))]
 fn sure_last(plan: Plan, level: u32) -> bool
     requires ranged { Ranged plan.low.0 plan }
     requires level_le_low { level ≤ plan.low.0 }
     ensures { result ≡ sure_last plan level }
 {
-    let high = plan.high;
-    plan.quick & !high.begins(level)
+    plan.quick & !plan.high.begins(level)
 }
 
 // The entries from one word of a directory up to another, and whether they are known to match.
@@ -86,6 +64,8 @@ pub struct Stretches {
 
 // The stretches from the first partition's slot p to the last one's slot q. Where the two are one partition, it is the last. Both are slots
 // of a half of a directory, which is no longer than the deepest ruler's.
+// What it is told is one call's alone: a struct of it would be made there and be taken apart here.
+#[tactic(auto, using(layout::proofs::Numbers::half_small), unfolding(crate::specs::Plan::arranged))]
 fn arranged(
     p: usize,
     q: usize,
@@ -116,27 +96,18 @@ fn arranged(
 }
 
 // The stretches of a level.
+#[tactic(auto, using(crate::proofs::Ranges::slots_in, crate::proofs::Ranges::few_slots, layout::proofs::Numbers::half_small), unfolding(crate::specs::Plan::stretches_at))]
 pub fn stretches_at(plan: Plan, level: u32) -> Stretches
     requires ranged { Ranged plan.low.0 plan }
     requires level_le_low { level ≤ plan.low.0 }
     ensures { result ≡ stretches_at plan level }
 {
-    let low = plan.low;
-    let high = plan.high;
-    let kind = plan.kind;
-    let p = slot_at(low, level);
-    let q = slot_at(high, level);
+    let p = slot_at(plan.low, level);
+    let q = slot_at(plan.high, level);
     let first = sure_first(plan, level);
     let last = sure_last(plan, level);
-    let half = half_length(low.level());
-    let replicas = Stretch::new(half + p, half + p + replica_slots(kind), first);
-    arranged(
-        p,
-        q,
-        original_slots(kind),
-        plan.quick,
-        first,
-        last,
-        replicas,
-    )
+    let half = half_length(plan.low.level());
+    let replicas = Stretch::new(half + p, half + p + plan.kind.replica_slots(), first);
+    let slots = plan.kind.original_slots();
+    arranged(p, q, slots, plan.quick, first, last, replicas)
 }

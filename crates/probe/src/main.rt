@@ -2,6 +2,8 @@
 // another form is answered `bad line`, and the next line is read. A call is a row of the table in `rows`.
 #![tactic(auto)]
 
+ghost use Rattle.std.specs.Prelude.{◌≤◌, length, IfSome};
+
 mod calls;
 mod input;
 mod print;
@@ -9,11 +11,49 @@ mod rows;
 mod scan;
 
 use input::{CHUNK, LINE};
-use rows::{FIRST, READ, SECOND, THIRD};
+use rows::{FIRST, READ, Row, SECOND, THIRD};
+use scan::{Ends, Fields, Named};
 use std::io;
 use std::io::Read;
 
-// Answers what is held of a line, and says whether it was a call. Nothing is called or written before the whole line is read.
+// A line that is a call: its row, its numbers, and where the buffers end that it only reads and that it may write.
+#[derive(Clone, Copy)]
+struct Line {
+    row: Row,
+    numbers: Named,
+    reads: Ends,
+    writes: Ends,
+}
+
+// Reads the whole of a line, where it is a call.
+fn line_of(
+    line: &[u8],
+    read: &mut [u32],
+    first: &mut [u32],
+    second: &mut [u32],
+    third: &mut [u32],
+) -> Option<Line>
+    ensures first_in_bounds { IfSome result (λ line. line.writes.first ≤ length first.new) }
+    ensures second_in_bounds { IfSome result (λ line. line.writes.second ≤ length second.new) }
+    ensures third_in_bounds { IfSome result (λ line. line.writes.third ≤ length third.new) }
+{
+    let mut fields = Fields::of(line);
+    let row = rows::row_named(&mut fields)?;
+    let numbers = fields.named(row.numbers)?;
+    let reads = fields.reads(row.reads, read)?;
+    let writes = fields.writes(row.writes, first, second, third)?;
+    if !fields.is_done() {
+        return None;
+    }
+    Some(Line {
+        row,
+        numbers,
+        reads,
+        writes,
+    })
+}
+
+// Answers what is held of a line. Nothing is called or written before the whole line is read.
 fn answer(
     rt: &impl Print,
     kept: &[u8],
@@ -22,25 +62,21 @@ fn answer(
     first: &mut [u32],
     second: &mut [u32],
     third: &mut [u32],
-) -> io::Result<bool> {
-    let line = input::line_of(kept, held);
-    let row = rows::row_named(line);
-    let numbers = scan::numbers_at(line, row.at, row.numbers);
-    let reads = scan::reads_at(line, numbers.next, row.reads, read);
-    let writes = scan::writes_at(line, reads.next, row.writes, first, second, third);
-    if !scan::is_whole(line, writes.next) {
-        return Ok(false);
+) -> io::Result<()> {
+    match line_of(input::line_of(kept, held), read, first, second, third) {
+        Some(line) => calls::make(
+            rt,
+            line.row,
+            line.numbers,
+            line.reads,
+            line.writes,
+            read,
+            first,
+            second,
+            third,
+        ),
+        None => rt.write_all(b"bad line\n"),
     }
-    calls::make(rt, row, numbers, reads, writes, read, first, second, third)?;
-    Ok(true)
-}
-
-// What is written for a line that is no call.
-fn bad_unless(rt: &impl Print, good: bool) -> io::Result<()> {
-    if !good {
-        rt.write_all(b"bad line\n")?;
-    }
-    Ok(())
 }
 
 // Reads the input to its end. A proved loop has to end, so it has a number of turns that no run uses up. The loop stands
@@ -61,8 +97,7 @@ fn take_all<R: Read>(
         if !standing.whole {
             return Ok(());
         }
-        let good = answer(rt, line, standing.held, read, first, second, third)?;
-        bad_unless(rt, good)?;
+        answer(rt, line, standing.held, read, first, second, third)?;
     }
     Ok(())
 }

@@ -67,10 +67,8 @@ pub fn numbers(
     ensures { IfOk result (λ end. end ≤ ROOM) }
 {
     let mut held = from;
-    let mut i: usize = 0;
-    while i < part.len() {
-        held = number(rt, out, held, part[i])?;
-        i += 1;
+    for &n in part {
+        held = number(rt, out, held, n)?;
     }
     Ok(held)
 }

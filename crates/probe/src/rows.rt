@@ -1,7 +1,7 @@
 // The table of the calls. A line is the call's name, its ruler, its numbers, the buffers that it only reads and those that it may write; its
 // answer is the number, the detail, what else it gives and the buffers that it may write. A row says how many numbers come after the ruler, and
 // which buffers; `calls` has what is called.
-use crate::scan;
+use crate::scan::Fields;
 use layout::ENTRY_WORDS;
 
 // The words that each buffer of a call may have.
@@ -34,7 +34,6 @@ pub enum Call {
     Ask,
     Run,
     Census,
-    Unknown,
 }
 
 // What a call gives after its number and detail.
@@ -54,31 +53,14 @@ pub struct Rooms {
     pub third: usize,
 }
 
-// What is called, where its ruler begins in the line, how many numbers come after the ruler, which buffers it only reads, which it may write,
-// and what it gives.
+// What is called, how many numbers come after its ruler, which buffers it only reads, which it may write, and what it gives.
 #[derive(Clone, Copy)]
 pub struct Row {
     pub call: Call,
-    pub at: usize,
     pub numbers: usize,
     pub reads: Rooms,
     pub writes: Rooms,
     pub gives: Gives,
-}
-
-// Which of the names, parted by spaces, a word is, from 0. Where it is none, it is how many there are.
-fn place_of(word: &[u8], names: &[u8]) -> usize {
-    let mut place: usize = 0;
-    let mut from: usize = 0;
-    while from < names.len() {
-        let end = scan::field_end(names, from);
-        if scan::same(word, &names[from..end]) {
-            return place;
-        }
-        from = end + 1;
-        place += 1;
-    }
-    place
 }
 
 fn lent(first: usize, second: usize, third: usize) -> Rooms {
@@ -89,10 +71,9 @@ fn lent(first: usize, second: usize, third: usize) -> Rooms {
     }
 }
 
-fn row_of(call: Call, at: usize, numbers: usize, reads: Rooms, writes: Rooms, gives: Gives) -> Row {
+fn row_of(call: Call, numbers: usize, reads: Rooms, writes: Rooms, gives: Gives) -> Row {
     Row {
         call,
-        at,
         numbers,
         reads,
         writes,
@@ -100,27 +81,20 @@ fn row_of(call: Call, at: usize, numbers: usize, reads: Rooms, writes: Rooms, gi
     }
 }
 
-// The table: the row of each name, in the order of the list.
-fn row_at(place: usize, at: usize, nowhere: usize) -> Row {
+// The table: the row that a line names in its first field.
+pub fn row_named(fields: &mut Fields<'_>) -> Option<Row> {
     let none = lent(0, 0, 0);
     let table = lent(TABLE, 0, 0);
     let index = lent(DIRECTORY, ORIGINALS, REPLICAS);
     let answers = lent(ANSWERS, 0, 0);
-    match place {
-        0 => row_of(Call::Build, at, 0, table, index, Gives::Nothing),
-        1 => row_of(Call::Check, at, 0, index, none, Gives::Nothing),
-        2 => row_of(Call::Add, at, 4, none, index, Gives::Nothing),
-        3 => row_of(Call::Remove, at, 1, none, index, Gives::Nothing),
-        4 => row_of(Call::Ask, at, 4, index, answers, Gives::Count),
-        5 => row_of(Call::Run, at, 3, index, none, Gives::Run),
-        6 => row_of(Call::Census, at, 0, index, none, Gives::Census),
-        _ => row_of(Call::Unknown, nowhere, 0, none, none, Gives::Nothing),
+    match fields.next()? {
+        b"build" => Some(row_of(Call::Build, 0, table, index, Gives::Nothing)),
+        b"check" => Some(row_of(Call::Check, 0, index, none, Gives::Nothing)),
+        b"add" => Some(row_of(Call::Add, 4, none, index, Gives::Nothing)),
+        b"remove" => Some(row_of(Call::Remove, 1, none, index, Gives::Nothing)),
+        b"ask" => Some(row_of(Call::Ask, 4, index, answers, Gives::Count)),
+        b"run" => Some(row_of(Call::Run, 3, index, none, Gives::Run)),
+        b"census" => Some(row_of(Call::Census, 0, index, none, Gives::Census)),
+        _ => None,
     }
-}
-
-// The row that a line names. Where it names none, nothing of the line is read on, so that it is not whole.
-pub fn row_named(line: &[u8]) -> Row {
-    let end = scan::field_end(line, 0);
-    let place = place_of(&line[0..end], b"build check add remove ask run census");
-    row_at(place, end + 1, scan::nowhere(line))
 }

@@ -4,6 +4,6 @@ pub mod Fair
 pub mod RulerMade
 pub mod Shares
 pub mod Shift
-pub mod Small
+pub mod Times
 pub mod Zeros
 pub mod Pieces

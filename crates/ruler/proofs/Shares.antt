@@ -12,9 +12,9 @@ use Rattle.ruler.specs.declared.Time.{Time}
 use Rattle.ruler.specs.declared.Numbers.{Numbers}
 use Rattle.ruler.specs.declared.Numbers.TheVariants.{Bits, Spread}
 use Rattle.ruler.specs.declared.Ruler.{Ruler}
-use Rattle.ruler.specs.Ruler.{widest, deepest, in_bounds, scale_of, scale, spans, first_time_of, last_time_of, steps_of, span_of, share_bits, share_of, Made}
+use Rattle.ruler.specs.Ruler.{widest, deepest, in_bounds, scale_of, spans, first_time_of, last_time_of, steps_of, span_of, share_bits, share_of}
+use Rattle.ruler.specs.Made.{scale}
 use Rattle.ruler.proofs.Fair.{bits_in, spread_in, among, scale-m, fair}
-use Rattle.ruler.proofs.RulerMade.{made_good, made_is}
 
 -- ---- a product in place of a division
 
@@ -155,19 +155,19 @@ module _ (n : Numbers) (good : T (in_bounds n)) (t : Time) (there : T ((scale_of
       let few = shares_few (t.0 - first_time_of n) (steps_of n) (span_of n) (2 ^ share_bits) q.some p.inside in
       omega (arith, few, p.near, mul-le-mul_right (2 ^ share_bits) q.few)
 
-module _ (r : Ruler) (made : Made r) (t : Time) (there : T ((scale r).has t)) where
+module _ (r : Ruler) (t : Time) (there : T ((scale r).has t)) where
   good : T (in_bounds r.numbers)
-  good = to_T (made_good r made)
+  good = to_T r.good
 
   -- no sum nor product leaves its word
   pub from_first : r.first ≤ t.0
-  from_first = rw (made_is r made) (of_between r.numbers t there).0
+  from_first = rw r.first_is (of_between r.numbers t there).0
 
   pub in_word : (t.0 - r.first) * r.share < 2 ^ 64
-  in_word = rw (made_is r made) (shares_fit r.numbers good t there)
+  in_word = rw (r.first_is, r.share_is) (shares_fit r.numbers good t there)
 
   pub cell-is : (t.0 - r.first) * r.share / 2 ^ share_bits ≡ (scale r).cell t
-  cell-is = rw (made_is r made) (by_shares r.numbers good t there)
+  cell-is = rw (r.first_is, r.share_is) (by_shares r.numbers good t there)
 
   pub small_cell : (scale r).cell t < 2 ^ 32
   small_cell = omega (arith, (fair r.numbers good).one_of t there, pow_mono (scale-m r.numbers good))

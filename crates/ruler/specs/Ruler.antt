@@ -1,13 +1,10 @@
 -- Document 01, "Ruler and cells", as definitions. Every test is a Bool and computes.
-use Rattle.std.specs.Prelude.{◌≡◌, Bool, cond, ◌&&◌, ℕ, zero, suc, ◌+◌, ◌-◌, ◌*◌, ◌/◌, ◌%◌, ◌^◌, leb, ltb, eqb}
+use Rattle.std.specs.Prelude.{Bool, cond, ◌&&◌, ℕ, zero, suc, ◌+◌, ◌-◌, ◌*◌, ◌/◌, ◌%◌, ◌^◌, leb, ltb, eqb}
 use Rattle.std.specs.Int.Count.{count_trailing_zeros}
 use Rattle.ruler.specs.declared.Time.{Time}
 use Rattle.ruler.specs.declared.Cell.{Cell}
 use Rattle.ruler.specs.declared.Numbers.{Numbers}
 use Rattle.ruler.specs.declared.Numbers.TheVariants.{Bits, Spread}
-use Rattle.ruler.specs.declared.Ruler.{Ruler}
-use Rattle.ruler.specs.declared.Judged.{Judged}
-use Rattle.ruler.specs.declared.Judged.TheVariants.{Good, OutOfBounds}
 
 -- "Times are whole seconds on the service day; as in GTFS Schedule they may pass 24:00:00."
 abbrev pub time_at : (seconds : ℕ) → Time
@@ -75,9 +72,6 @@ scale_of (Spread m lo hi) = record {
   has = λ t. leb lo t.0 && leb t.0 hi;
   cell = λ t. (t.0 - lo) * (2 ^ m - 1) / (hi - lo);
 }
-
-abbrev pub scale : Ruler → Scale
-scale r = scale_of r.numbers
 
 -- both times are on the ruler, the first no later than the second
 abbrev pub spans : Scale → (start end : Time) → Bool
@@ -173,14 +167,3 @@ share_bits = 48
 
 unfoldable pub share_of : Numbers → ℕ
 share_of n = steps_of n * 2 ^ share_bits / span_of n + 1
-
-abbrev pub ruler_of : Numbers → Ruler
-ruler_of n = record { numbers = n; first = first_time_of n; last = last_time_of n; share = share_of n }
-
--- the ruler of some numbers, or the refusal of them
-unfoldable pub judge : Numbers → Judged
-judge n = cond (in_bounds n) (Good (ruler_of n)) OutOfBounds
-
--- a ruler as it is made: of its numbers, which are in bounds
-abbrev pub Made : Ruler → Type 0
-Made r = judge r.numbers ≡ Good r

@@ -4,6 +4,7 @@ ghost use Rattle.ruler.specs.Ruler.{in_bounds, first_time_of, last_time_of, step
 
 use crate::{Numbers, Ruler, SHARE_BITS, power};
 
+#[tactic(auto, unfolding(crate::specs::Ruler::in_bounds))]
 pub fn in_bounds(n: Numbers) -> bool
     ensures { result ≡ in_bounds n }
 {
@@ -19,45 +20,49 @@ pub fn in_bounds(n: Numbers) -> bool
 }
 
 // The first time on the ruler.
+#[tactic(auto, unfolding(crate::specs::Ruler::first_time_of))]
 pub fn first_of(n: Numbers) -> u32
     ensures { result ≡ first_time_of n }
 {
     match n {
-        Numbers::Bits { w: _, m: _ } => 0,
-        Numbers::Spread { m: _, lo, hi: _ } => lo,
+        Numbers::Bits { .. } => 0,
+        Numbers::Spread { lo, .. } => lo,
     }
 }
 
 // And the last.
+#[tactic(auto, unfolding(crate::specs::Ruler::last_time_of))]
 pub fn last_of(n: Numbers) -> u32
     requires { in_bounds n ≡ true }
     ensures { result ≡ last_time_of n }
 {
     match n {
-        Numbers::Bits { w, m: _ } => power(w) - 1,
-        Numbers::Spread { m: _, lo: _, hi } => hi,
+        Numbers::Bits { w, .. } => power(w) - 1,
+        Numbers::Spread { hi, .. } => hi,
     }
 }
 
 // The cells that are climbed over all its seconds. The second kind comes to its last cell with its last time, the first one second later.
+#[tactic(auto, unfolding(crate::specs::Ruler::steps_of))]
 fn steps_of(n: Numbers) -> u32
     requires { in_bounds n ≡ true }
     ensures { result ≡ steps_of n }
 {
     match n {
-        Numbers::Bits { w: _, m } => power(m),
-        Numbers::Spread { m, lo: _, hi: _ } => power(m) - 1,
+        Numbers::Bits { m, .. } => power(m),
+        Numbers::Spread { m, .. } => power(m) - 1,
     }
 }
 
 // Those seconds.
+#[tactic(auto, unfolding(crate::specs::Ruler::span_of))]
 fn span_of(n: Numbers) -> u32
     requires { in_bounds n ≡ true }
     ensures { result ≡ span_of n }
 {
     match n {
-        Numbers::Bits { w, m: _ } => power(w),
-        Numbers::Spread { m: _, lo, hi } => hi - lo,
+        Numbers::Bits { w, .. } => power(w),
+        Numbers::Spread { lo, hi, .. } => hi - lo,
     }
 }
 

@@ -1,17 +1,18 @@
 // The ruler: raw times, cells at a level, and the numbers that a caller names a ruler by.
 #![tactic(auto)]
 
-ghost use Rattle.std.specs.Prelude.{◌≡◌, ◌+◌, ◌-◌, ◌^◌, ◌<◌, ◌≤◌, T};
-ghost use Rattle.ruler.specs.Ruler.{time_at, before, same_time, no_later, next_time, widest, deepest, most_trips, judge, scale, spans, bottom_of, Made};
+ghost use Rattle.std.specs.Prelude.{◌≡◌, ◌+◌, ◌-◌, ◌^◌, ◌<◌, ◌≤◌, T, true};
+ghost use Rattle.ruler.specs.Ruler.{time_at, before, same_time, no_later, next_time, widest, deepest, most_trips, in_bounds, spans, bottom_of};
 ghost use Rattle.ruler.specs.Ruler.{cell_of, bottom_cell, same_cell, no_later_cell, next_cell, cell_above, cell_in, parity, first_of_two};
 ghost use Rattle.ruler.specs.Ruler.{first_in, last_in, begins, levels_begun, pieces, cell_rank};
+ghost use Rattle.ruler.specs.Ruler.{first_time_of, last_time_of, share_of};
 
 mod kinds;
 
-// A raw time: whole seconds on the service day, which may pass 24:00:00. Its field is private: outside this crate a time can only be given
-// to the functions below, of which none but `Ruler::bottom_cell` has to do with cells. Its number leaves it by `seconds`,
+// A raw time: whole seconds on the service day, which may pass 24:00:00. Its field is private: outside this crate a time can only be compared
+// with a time, or given to the functions below, of which none but `Ruler::bottom_cell` has to do with cells. Its number leaves it by `seconds`,
 // which is called only where an entry's words are written (store/src/entry.rt).
-#[derive(Clone, Copy)]
+#[derive(Clone, Copy, PartialEq, Eq, PartialOrd, Ord)]
 pub struct Time(u32);
 
 impl Time {
@@ -25,24 +26,6 @@ impl Time {
         ensures { result ≡ self.0 }
     {
         self.0
-    }
-
-    pub fn before(self, other: Time) -> bool
-        ensures { result ≡ before self other }
-    {
-        self.0 < other.0
-    }
-
-    pub fn same(self, other: Time) -> bool
-        ensures { result ≡ same_time self other }
-    {
-        self.0 == other.0
-    }
-
-    pub fn no_later(self, other: Time) -> bool
-        ensures { result ≡ no_later self other }
-    {
-        self.0 <= other.0
     }
 
     // The time one second later.
@@ -64,9 +47,9 @@ const HALF_WORD: u32 = 65536;
 const SHARE_BITS: u32 = 48;
 
 // A cell at a level: the level, and the cell's number there. A partition is the cell of its level that it covers. A range of cells that goes
-// to a level's last ends at the cell one past it. The fields are private, and cells are compared at one level only. A cell's number leaves it
+// to a level's last ends at the cell one past it. The fields are private, and cells are compared at one level only, so their order is not derived. A cell's number leaves it
 // by `rank` and `rank_at`, which are called only where a slot's number is made (store/src/places.rt, plan/src/stretches.rt); `parity` gives its last
-// bit. What is counted of its digits is a number of levels or of cells.
+// bit. What is counted of its digits is a number of levels or of cells. No ghost field bounds the numbers: definitions name cells of any.
 #[derive(Clone, Copy)]
 pub struct Cell(u32, u32);
 
@@ -114,6 +97,7 @@ impl Cell {
     }
 
     // The cell of a level above in which it lies.
+    #[tactic(auto, unfolding(crate::specs::Ruler::cell_up))]
     pub fn at_level(self, level: u32) -> Cell
         requires { (level ≤ self.0) × (self.0 ≤ deepest) }
         ensures { result ≡ cell_in level self }
@@ -152,6 +136,7 @@ impl Cell {
     }
 
     // Whether it is the first of the cells of its level that lie in one cell of a level above.
+    #[tactic(auto, unfolding(crate::specs::Ruler::begins))]
     pub fn begins(self, level: u32) -> bool
         requires { (level ≤ self.0) × (self.0 ≤ deepest) }
         ensures { result ≡ begins self level }
@@ -220,8 +205,8 @@ impl Numbers {
         ensures { result ≡ bottom_of self }
     {
         match self {
-            Numbers::Bits { w: _, m } => m,
-            Numbers::Spread { m, lo: _, hi: _ } => m,
+            Numbers::Bits { m, .. } => m,
+            Numbers::Spread { m, .. } => m,
         }
     }
 }
@@ -234,28 +219,28 @@ pub struct Ruler {
     first: u32,
     last: u32,
     share: u64,
-}
-
-#[derive(Clone, Copy)]
-pub enum Judged {
-    Good(Ruler),
-    OutOfBounds,
+    ghost good: { in_bounds numbers ≡ true },
+    ghost first_is: { first ≡ first_time_of numbers },
+    ghost last_is: { last ≡ last_time_of numbers },
+    ghost share_is: { share ≡ share_of numbers },
 }
 
 impl Ruler {
+    ghost use Rattle.ruler.specs.Made.{judge, scale};
+
     pub const WIDEST: u32 = 24;
 
     pub const DEEPEST: u32 = 10;
 
     pub const MOST_TRIPS: usize = 4096;
 
-    pub fn new(numbers: Numbers) -> Judged
+    pub fn new(numbers: Numbers) -> Option<Ruler>
         ensures { result ≡ judge numbers }
     {
         if !kinds::in_bounds(numbers) {
-            return Judged::OutOfBounds;
+            return None;
         }
-        Judged::Good(Ruler {
+        Some(Ruler {
             numbers,
             first: kinds::first_of(numbers),
             last: kinds::last_of(numbers),
@@ -267,13 +252,11 @@ impl Ruler {
     pub fn bottom(self) -> u32
         ensures { result ≡ (scale self).m }
     {
-        let numbers = self.numbers;
-        numbers.bottom()
+        self.numbers.bottom()
     }
 
     // Whether a raw time is on the ruler.
     pub fn has(self, t: Time) -> bool
-        requires { Made self }
         ensures { result ≡ (scale self).has t }
     {
         (self.first <= t.0) & (t.0 <= self.last)
@@ -281,7 +264,6 @@ impl Ruler {
 
     // Whether both times are on the ruler, the first no later than the second: then the one can't be past its end, nor the other before its start.
     pub fn spans(self, start: Time, end: Time) -> bool
-        requires { Made self }
         ensures { result ≡ spans (scale self) start end }
     {
         (self.first <= start.0) & (start.0 <= end.0) & (end.0 <= self.last)
@@ -289,8 +271,7 @@ impl Ruler {
 
     // The level-m cell of a time.
     pub fn bottom_cell(self, t: Time) -> Cell
-        requires made { Made self }
-        requires on_ruler { T ((scale self).has t) }
+        requires { T ((scale self).has t) }
         ensures { result ≡ bottom_cell (scale self) t }
     {
         let shares = (t.0 - self.first) as u64 * self.share;

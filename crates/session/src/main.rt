@@ -117,7 +117,7 @@ fn take_all<R: Read, W: Write>(
             answers,
             out,
         )?;
-        if !feeding::goes_on(standing) {
+        if !feeding::goes_on(&standing) {
             return Ok(standing);
         }
     }

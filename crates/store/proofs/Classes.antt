@@ -13,20 +13,21 @@ use native.Mathlib.Nat.{div-lt_iff_lt-mul, mul-lt-mul_of_pos_right}
 use native.Mathlib.Numerals.{add-one}
 use native.Mathlib.Omega.{arith}
 use native.Mathlib.Decide.{dec_lt}
-use lib.Dec.{T, eqb, eqb→eq, leb, ltb, ltb→lt}
+use lib.Dec.{T, eqb, eqb→eq, leb}
 use lib.ListN.{length, get_or, set, take, drop}
 use lib.Seq.{take-suc-set, take-set-le, take_all}
 use borrow.Author.Tests.{eq-eqb, ne_eqb, leb-true, leb-false}
 use Rattle.lists.specs.Lists.{keep, cons_if, sort, ascending}
 use Rattle.lists.proofs.Tests.{of_and, to_and, of_three, to_three, of_or, or_left, or_right, to_T, of_T, of_no_T, of_not, to_not, agree, eq→eqb}
 use Rattle.lists.proofs.Members.{none, more, to_keep, pairs_keep, pairs_append, pairs_parts, of_sort, to_sort}
-use Rattle.lists.proofs.Halving.{at_mem, mem_at, in_order}
+use Rattle.lists.proofs.Halving.{at_mem, mem_at}
 use Rattle.lists.proofs.Sorting.{Differ}
 use Rattle.trip.specs.declared.Trip.{Trip}
 use Rattle.layout.specs.Words.{entry_words, rows}
+use Rattle.layout.proofs.Rows.{length-rows}
 use Rattle.store.specs.Entries.{word_end, ids}
-use Rattle.store.specs.Ids.{climbs, ids_differ, differ, mixer, spread, class_of, in_class, of_class, among, apart}
-use Rattle.store.proofs.Differing.{climbs_sorted, every_id, steps_left, steps_over, of_differ, to_differ}
+use Rattle.store.specs.Ids.{climbs, ids_differ, differ, mixer, spread, class_of, in_class, of_class, Gathers, among, apart}
+use Rattle.store.proofs.Differing.{rising, every_id, steps_left, steps_over, of_differ, to_differ}
 
 -- ---- a loop over the rows of a part
 
@@ -101,9 +102,6 @@ pub record Narrowed (x : ℕ) (l : List ℕ) (low width : ℕ) : Type 0 where
 
 pub narrow_start : (x : ℕ) (l : List ℕ) (n : ℕ) → 1 ≤ n → length l ≡ n → Narrowed x l 0 n
 narrow_start x l n h e = record { some = h; inside = omega (arith, e); only = λ j g q. (omega arith, omega (arith, e)) }
-
-rising : (l : List ℕ) → climbs l ≡ true → (i j : ℕ) → i < j → j < length l → get_or l i 0 < get_or l j 0
-rising l e i j h g = ltb→lt (get_or l i 0) (get_or l j 0) (to_T (in_order 0 ltb (climbs_sorted l (to_T e)) i j h g))
 
 rising_le : (l : List ℕ) → climbs l ≡ true → (i j : ℕ) → i ≤ j → j < length l → get_or l i 0 ≤ get_or l j 0
 rising_le l e i j h g = go (dec_lt i j)
@@ -215,9 +213,12 @@ pub none_differ : (l : List ℕ) → l ≡ [] → differ l ≡ true
 unfolding sort climbs
 none_differ l e = rw e
 
--- a full room is all of what was gathered
-pub full-room : (all room left : List ℕ) (found : ℕ) → all ≡ take found room ++ left → found ≡ length room → all ≡ room ++ left
-full-room all room left found e f = e ∙ ap (λ (l : List ℕ). l ++ left) (take_all found room (omega arith))
+-- a full room, where rows of a part are left, is all of what was gathered
+pub full_room : {classes class from found next : ℕ} {room : List ℕ} (l : List ℕ) → Gathers classes class (rows l) from room found next → next < length l / entry_words
+    → of_class classes class (rows l) from ≡ room ++ of_class classes class (rows l) next
+full_room {classes} {class} {next = next} {room = room} l g h =
+    let full = g.full (omega (arith, length-rows l)) in
+    g.there ∙ ap (λ (k : List ℕ). k ++ of_class classes class (rows l) next) (take_all _ room (omega arith))
 
 -- ---- all classes
 

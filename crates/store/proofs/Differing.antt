@@ -6,7 +6,7 @@ use mathlib.Core.List.Memᴰ.{not-nil}
 use mathlib.Core.List.Memᴰ.{tail as there}
 use mathlib.Core.List.{List, [], ◌∷◌, Memᴰ as Mem}
 use Prim.Native.Nat.{ℕ, ◌+◌, ◌*◌, ◌/◌, ◌≤◌, ◌<◌}
-use native.Mathlib.Nat.{mul_comm, suc-mul, one-mul, mul-zero, div-one, le-div_iff_mul-le}
+use native.Mathlib.Nat.{one-mul, div-one}
 use native.Mathlib.Numerals.{add-one}
 use native.Mathlib.Omega.{arith}
 use lib.Dec.{T, leb, ltb, ltb→lt}
@@ -17,6 +17,7 @@ use Rattle.lists.specs.Lists.{insert, sort, ascending, up_to}
 use Rattle.lists.proofs.Tests.{of_and, to_and, to_T, of_T}
 use Rattle.lists.proofs.Members.{none, more, to_insert, to_sort}
 use Rattle.lists.proofs.Sorting.{Sorted, Differ, below, differ-apart, ascending-below, sorted_sort}
+use Rattle.lists.proofs.Halving.{in_order}
 use Rattle.lists.proofs.Upto.{length-up_to, get_or_up_to}
 use Rattle.trip.specs.declared.Trip.{Trip}
 use Rattle.layout.specs.Words.{entry_words, rows}
@@ -53,6 +54,9 @@ unfolding climbs
 sorted_climbs {l = []} s = tt
 sorted_climbs {l = x ∷ l} s = sorted_from s
 
+pub rising : (l : List ℕ) → climbs l ≡ true → (i j : ℕ) → i < j → j < length l → get_or l i 0 < get_or l j 0
+rising l e i j h g = ltb→lt (get_or l i 0) (get_or l j 0) (to_T (in_order 0 ltb (climbs_sorted l (to_T e)) i j h g))
+
 -- ---- words in even steps
 
 -- one word at a time they are all the words
@@ -74,11 +78,6 @@ pub every_id : (l : List ℕ) → every_step entry_words l ≡ ids (rows l)
 unfolding every_step
 every_id l = sym (ids-rows l)
 
-pub step_inside : (step : ℕ) → 0 < step → (l : List ℕ) (i : ℕ) → i < length l / step → step * i < length l
-step_inside step pos l i h =
-    let all : (i + 1) * step ≤ length l = (le-div_iff_mul-le {k = step} {x = i + 1} {y = length l} pos).0 (omega arith) in
-    omega (arith, all, mul_comm step i, suc-mul i step, ap (λ (k : ℕ). k * step) (add-one i))
-
 -- ---- the loop over them
 
 climbs-none : (xs : List ℕ) → length xs ≡ 0 → climbs xs ≡ true
@@ -91,42 +90,41 @@ unfolding climbs
 climbs_first [] h = absurd (omega arith)
 climbs_first (x ∷ xs) h = refl
 
-module _ (step : ℕ) (l : List ℕ) where
-  long : length (every_step step l) ≡ length l / step
-  unfolding every_step
-  long = length-up_to (λ (k : ℕ). get_or l (step * k) 0) (length l / step)
+module _ (key : ℕ → ℕ) (n : ℕ) where
+  pub keys_none : n ≡ 0 → climbs (up_to key n) ≡ true
+  keys_none h = climbs-none (up_to key n) (length-up_to key n ∙ h)
 
-  at : (i : ℕ) → i < length l / step → get_or (every_step step l) i 0 ≡ get_or l (step * i) 0
-  unfolding every_step
-  at i h = get_or_up_to (λ (k : ℕ). get_or l (step * k) 0) (length l / step) i 0 h
-
-  pub steps_none : length l / step ≡ 0 → climbs (every_step step l) ≡ true
-  steps_none h = climbs-none (every_step step l) (long ∙ h)
-
-  pub steps_first : 0 < length l / step → climbs_from (get_or l 0 0) (drop 1 (every_step step l)) ≡ climbs (every_step step l)
-  steps_first h =
-      let first : get_or (every_step step l) 0 0 ≡ get_or l 0 0 = at 0 h ∙ ap (λ (k : ℕ). get_or l k 0) (mul-zero step) in
-      ap (λ (x : ℕ). climbs_from x (drop 1 (every_step step l))) (sym first) ∙ climbs_first (every_step step l) (rw long h)
+  pub keys_first : 0 < n → climbs_from (key 0) (drop 1 (up_to key n)) ≡ climbs (up_to key n)
+  keys_first h =
+      ap (λ (x : ℕ). climbs_from x (drop 1 (up_to key n))) (sym (get_or_up_to key n 0 0 h)) ∙ climbs_first (up_to key n) (rw length-up_to h)
 
   module _ (i : ℕ) where
-    pub steps_left : i < length l / step → drop i (every_step step l) ≡ get_or l (step * i) 0 ∷ drop (i + 1) (every_step step l)
-    steps_left h = drop-cons (every_step step l) i 0 (rw long h) ∙ rw (add-one, at i h)
+    pub keys_left : i < n → drop i (up_to key n) ≡ key i ∷ drop (i + 1) (up_to key n)
+    keys_left h = drop-cons (up_to key n) i 0 (rw length-up_to h) ∙ rw (add-one, get_or_up_to key n i 0 h)
 
-    pub steps_over : length l / step ≤ i → drop i (every_step step l) ≡ []
-    steps_over h = let g : length (every_step step l) ≤ i = rw long h in drop_of_length-le (every_step step l) g
+    pub keys_over : n ≤ i → drop i (up_to key n) ≡ []
+    keys_over h = let g : length (up_to key n) ≤ i = rw length-up_to h in drop_of_length-le (up_to key n) g
 
-    pub steps_more : (n : ℕ) → i < length l / step → n < get_or l (step * i) 0
-        → climbs_from (get_or l (step * i) 0) (drop (i + 1) (every_step step l)) ≡ climbs_from n (drop i (every_step step l))
+    pub keys_more : (last : ℕ) → i < n → last < key i → climbs_from (key i) (drop (i + 1) (up_to key n)) ≡ climbs_from last (drop i (up_to key n))
     unfolding climbs_from
-    steps_more n h e = rw (steps_left h, lt-ltb n (get_or l (step * i) 0) e)
+    keys_more last h e = rw (keys_left h, lt-ltb last (key i) e)
 
-    pub steps_stop : (n : ℕ) → i < length l / step → get_or l (step * i) 0 ≤ n → climbs_from n (drop i (every_step step l)) ≡ false
+    pub keys_stop : (last : ℕ) → i < n → key i ≤ last → climbs_from last (drop i (up_to key n)) ≡ false
     unfolding climbs_from
-    steps_stop n h e = rw (steps_left h, le-ltb n (get_or l (step * i) 0) e)
+    keys_stop last h e = rw (keys_left h, le-ltb last (key i) e)
 
-    pub steps_end : (n : ℕ) → length l / step ≤ i → climbs_from n (drop i (every_step step l)) ≡ true
+    pub keys_end : (last : ℕ) → n ≤ i → climbs_from last (drop i (up_to key n)) ≡ true
     unfolding climbs_from
-    steps_end n h = rw (steps_over h)
+    keys_end last h = rw (keys_over h)
+
+module _ (step : ℕ) (l : List ℕ) (i : ℕ) where
+  pub steps_left : i < length l / step → drop i (every_step step l) ≡ get_or l (step * i) 0 ∷ drop (i + 1) (every_step step l)
+  unfolding every_step
+  steps_left h = keys_left (λ (k : ℕ). get_or l (step * k) 0) (length l / step) i h
+
+  pub steps_over : length l / step ≤ i → drop i (every_step step l) ≡ []
+  unfolding every_step
+  steps_over h = keys_over (λ (k : ℕ). get_or l (step * k) 0) (length l / step) i h
 
 -- ---- ids that differ
 

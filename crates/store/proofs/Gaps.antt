@@ -1,13 +1,13 @@
--- A gap of one entry: one law for a turn of each loop and one for its end, and what opening and closing do to words with a seam.
+-- A gap of one entry: that it is opened and closed by one copy within the list, and what opening and closing do to words with a seam.
 use mathlib.Core.Path.{◌≡◌, sym, ap, ◌∙◌}
-use mathlib.Core.List.{List, [], ◌∷◌, ◌++◌, append_assoc}
+use mathlib.Core.List.{List, ◌∷◌, ◌++◌, append_assoc}
 use Prim.Native.Nat.{ℕ, suc, ◌+◌, ◌-◌, ◌*◌, ◌≤◌, ◌<◌}
-use native.Mathlib.Numerals.{add-one}
 use native.Mathlib.Omega.{arith}
-use lib.ListN.{length, get_or, take, drop, set, replicate, length-append, length-drop, take-append-drop}
-use lib.Seq.{slice, slice_empty, slice-cons, take-set-le, take-set-lt, drop-set-lt, take-suc, take-suc-set, drop-append-le, length-take-le}
-use lib.Seq.{take_at, drop_at, take-append-add, set_split, split_at}
-use borrow.Rule.Slice.PartMut.{put_mid, mid_len, Post-is}
+use lib.ListN.{length, get_or, take, drop, replicate, length-append, length-drop, take-append-drop}
+use lib.Seq.{slice, paste, length-slice, length-take-le}
+use lib.Seq.{take_at, drop_at, take-append-add, split_at}
+use borrow.Rule.Slice.PartMut.{put_mid, Post-is}
+use Rattle.std.proofs.lemmas.List.{drop-take}
 use Rattle.trip.specs.declared.Trip.{Trip}
 use Rattle.layout.specs.Words.{entry_words, trip_words, words}
 use Rattle.layout.proofs.Rows.{words-add, times_one_more, words_cons, words_append, words-length, trip_words-length}
@@ -17,53 +17,40 @@ use Rattle.store.specs.Slots.{inserted, removed}
 use Rattle.store.specs.Ordered.{no_trip}
 use Rattle.store.proofs.Entries.{put_seam}
 
--- ---- the loops
+-- ---- the words that are moved, as one copy within the list
 
-drop-set : (l : List ℕ) (i v : ℕ) → i < length l → drop i (set l i v) ≡ v ∷ drop (suc i) l
-drop-set l i v h = ap (drop i) (set_split l i v h) ∙ drop_at (take i l) (v ∷ drop (suc i) l) i (length-take-le i l (omega arith))
+moved : (from end : ℕ) (l : List ℕ) → from ≤ end → take (end - from) (drop from l) ≡ slice from end l
+moved from end l h = let e : from + (end - from) ≡ end = omega arith in
+    sym (drop-take from (end - from) l) ∙ ap (λ (n : ℕ). slice from n l) e
 
-pub opened_turn : (at i : ℕ) (l : List ℕ) → at ≤ i → i + entry_words < length l
-    → opened at i (set l (i + entry_words) (get_or l i 0)) ≡ opened at (i + 1) l
+pub copied_up : (at used : ℕ) (l : List ℕ) → at ≤ used → paste l (at + entry_words) (drop at l) (used - at) ≡ opened at used l
 unfolding opened
-opened_turn at i l h g =
-    let v : ℕ = get_or l i 0 in
-    let to : ℕ = i + entry_words in
-    let front : take (at + entry_words) (set l to v) ≡ take (at + entry_words) l = take-set-le (at + entry_words) l to v (omega arith) in
-    let mid : take i (set l to v) ≡ take i l = take-set-le i l to v (omega arith) in
-    let next : suc to ≡ i + 1 + entry_words = omega arith in
-    let back : drop to (set l to v) ≡ v ∷ drop (i + 1 + entry_words) l = rw (← next) (drop-set l to v g) in
-    let room : at ≤ length (take i l) = rw (length-take-le i l (omega arith)) h in
-    let more : drop at (take (i + 1) l) ≡ drop at (take i l) ++ (v ∷ []) =
-    rw (add-one, take-suc l i 0 (omega arith)) (drop-append-le at (take i l) (v ∷ []) room) in
-    simp (front, mid, back, more, append_assoc)
+copied_up at used l h =
+    let end : at + entry_words + (used - at) ≡ used + entry_words = omega arith in
+    rw (moved at used l h, end) (append_assoc (take (at + entry_words) l) (slice at used l) (drop (used + entry_words) l))
 
-pub opened_end : (at : ℕ) (l : List ℕ) → opened at at l ≡ l
-unfolding opened
-opened_end at l = rw slice_empty (take-append-drop (at + entry_words) l)
-
-pub closed_turn : (i used : ℕ) (l : List ℕ) → i + entry_words < used → used ≤ length l
-    → closed (i + 1) used (set l i (get_or l (i + entry_words) 0)) ≡ closed i used l
+-- the words that the last entry leaves are cleared, as a part that is lent
+pub copied_down : (at used n : ℕ) (l x k : List ℕ) → at + entry_words ≤ used → used ≤ length l → n ≡ entry_words
+    → x ≡ paste l at (drop (at + entry_words) l) (used - (at + entry_words)) → k ≡ replicate entry_words 0
+    → put_mid (used - entry_words) n x k ≡ closed at used l
 unfolding closed
-closed_turn i used l h g =
-    let v : ℕ = get_or l (i + entry_words) 0 in
-    let front : take (i + 1) (set l i v) ≡ take i l ++ (v ∷ []) = rw add-one (take-suc-set l i v (omega arith)) in
-    let mid : drop (i + 1 + entry_words) (take used (set l i v)) ≡ drop (i + 1 + entry_words) (take used l) =
-    rw (take-set-lt used l i v (omega arith)) (drop-set-lt (i + 1 + entry_words) (take used l) i v (omega arith)) in
-    let back : drop used (set l i v) ≡ drop used l = drop-set-lt used l i v (omega arith) in
-    let next : suc (i + entry_words) ≡ i + 1 + entry_words = omega arith in
-    let less : drop (i + entry_words) (take used l) ≡ v ∷ drop (i + 1 + entry_words) (take used l) =
-    rw (← next) (slice-cons (i + entry_words) used l 0 h g) in
-    simp (front, mid, back, less, append_assoc)
-
--- at the end the last entry's words are cleared, as a part that is lent
-pub closed_end : (i used : ℕ) (l k : List ℕ) → used ≡ i + entry_words → used ≤ length l → k ≡ replicate (length (take (used - i) (drop i l))) 0
-    → put_mid i (used - i) l k ≡ closed i used l
-unfolding closed
-closed_end i used l k e h c =
-    let many : length (take (used - i) (drop i l)) ≡ entry_words = mid_len i used l h ∙ omega arith in
-    let none : slice (i + entry_words) used l ≡ [] = rw e (slice_empty (i + entry_words) l) in
-    let rest : drop (used - i) (drop i l) ≡ drop used l = Post-is i used l (omega arith) in
-    rw (none, rest, c, many)
+copied_down at used n l x k h g e p c =
+    let m = slice (at + entry_words) used l in
+    let end : at + (used - (at + entry_words)) ≡ used - entry_words = omega arith in
+    let long : length (take at l ++ m) ≡ used - entry_words =
+    length-append (take at l) m ∙ omega (arith, length-take-le at l (omega arith), length-slice (at + entry_words) used l g) in
+    let rest : drop entry_words (drop (used - entry_words) l) ≡ drop used l =
+    let e : used - (used - entry_words) ≡ entry_words = omega arith in rw e at (Post-is (used - entry_words) used l (omega arith)) in
+    rw (
+      p,
+      moved (at + entry_words) used l h,
+      end,
+      e,
+      c,
+      take_at (take at l ++ m) (drop (used - entry_words) l) (used - entry_words) long,
+      drop_at (take at l ++ m) (drop (used - entry_words) l) (used - entry_words) long,
+      rest,
+    ) (append_assoc (take at l) m (replicate entry_words 0 ++ drop used l))
 
 -- ---- words with a seam: p stands before the place, m from it to the end, q after the end
 

@@ -18,7 +18,8 @@ use Rattle.lists.proofs.Tests.{to_and, of_T, of_not_T}
 use Rattle.lists.proofs.Members.{to_keep}
 use Rattle.lists.proofs.Kept.{keep_all}
 use Rattle.ruler.specs.declared.Ruler.{Ruler}
-use Rattle.ruler.specs.Ruler.{Scale, Made, scale, cell_up}
+use Rattle.ruler.specs.Ruler.{Scale, cell_up}
+use Rattle.ruler.specs.Made.{scale}
 use Rattle.ruler.proofs.Fair.{Fair}
 use Rattle.ruler.proofs.CellLevels.{up_half, up_bottom, up_lt}
 use Rattle.ruler.proofs.Zeros.{zeros_begin, zeros_stop}
@@ -202,12 +203,12 @@ module _ (s : Scale) (fair : Fair s) (t : Trip) (f : Fits s t) where
 
 -- ---- the same of a ruler, for the code
 
-module _ (r : Ruler) (t : Trip) (good : Made r) (f : Fits (scale r) t) where
+module _ (r : Ruler) (t : Trip) (f : Fits (scale r) t) where
   pub level_deep : home_level (scale r).m ((scale r).cell t.start) ((scale r).cell t.end) (scale r).m ≤ (scale r).m
-  level_deep = home-deep (scale r) (fair_ruler r good) t f
+  level_deep = home-deep (scale r) (fair_ruler r) t f
 
   pub place_there : (L : ℕ) → L ≤ (scale r).m → cell_up (scale r).m L ((scale r).cell t.start) < 2 ^ L
-  place_there = home_place (scale r) (fair_ruler r good) t f
+  place_there = home_place (scale r) (fair_ruler r) t f
 
   pub home_in : home (scale r) t < 2 * partitions (scale r).m
-  home_in = home_lt (scale r) (fair_ruler r good) t f
+  home_in = home_lt (scale r) (fair_ruler r) t f

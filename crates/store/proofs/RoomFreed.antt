@@ -15,7 +15,7 @@ use Rattle.ruler.proofs.Fair.{Fair}
 use Rattle.trip.specs.declared.Trip.{Trip}
 use Rattle.layout.specs.declared.Half.{Half}
 use Rattle.layout.specs.declared.Half.TheVariants.{Originals, Replicas}
-use Rattle.layout.specs.declared.Outcome.TheVariants.{Accepted}
+use Rattle.layout.specs.Outcomes.{Accepted}
 use Rattle.layout.specs.Words.{entry_words, words, rows, entries, Index}
 use Rattle.layout.specs.Refusals.{IndexOf, table_of, row_tests, add_outcome, Fits}
 use Rattle.layout.specs.Calls.{without, remove_of}

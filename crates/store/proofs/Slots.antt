@@ -164,8 +164,8 @@ pub record RoomWords (dir arena : List ℕ) (slot pos : ℕ) : Type 0 where
   pub room : entry_words * get_or dir (length dir - 1) 0 + entry_words ≤ length arena
   pub few : (k : ℕ) → get_or dir k 0 < most_entries
 
-pub room-words : (dir arena : List ℕ) (ls : List (List Trip)) (slot pos : ℕ) → Room dir arena ls slot pos → RoomWords dir arena slot pos
-room-words dir arena ls slot pos r =
+pub room_words : {dir arena : List ℕ} {slot pos : ℕ} → (ls : List (List Trip)) × Room dir arena ls slot pos → RoomWords dir arena slot pos
+room_words {slot = slot} (ls, r) =
     let h = r.holds in
     record {
       slot_in = omega (arith, holds_slots h, r.slot_in);
@@ -205,8 +205,8 @@ pub record ThereWords (dir arena : List ℕ) (slot pos : ℕ) : Type 0 where
   pub room : entry_words * get_or dir (length dir - 1) 0 ≤ length arena
   pub more : (k : ℕ) → slot + 1 ≤ k → k < length dir → 0 < get_or dir k 0
 
-pub there-words : (dir arena : List ℕ) (ls : List (List Trip)) (slot pos : ℕ) → There dir arena ls slot pos → ThereWords dir arena slot pos
-there-words dir arena ls slot pos r =
+pub there_words : {dir arena : List ℕ} {slot pos : ℕ} → (ls : List (List Trip)) × There dir arena ls slot pos → ThereWords dir arena slot pos
+there_words {slot = slot} (ls, r) =
     let h = r.holds in
     record {
       slot_in = omega (arith, holds_slots h, r.slot_in);

@@ -1,16 +1,12 @@
 -- "1, 3": they accept, and there is a ruler with a directory of its length; or they refuse, and so does the call.
-use Rattle.std.specs.Prelude.{ℕ}
+use Rattle.std.specs.Prelude.{ℕ, Result}
 use Rattle.ruler.specs.declared.Numbers.{Numbers}
-use Rattle.ruler.specs.Ruler.{scale_of, ruler_of}
-use Rattle.layout.specs.declared.Outcome.{Outcome}
-use Rattle.layout.specs.declared.Outcome.TheVariants.{Accepted, Refused}
+use Rattle.ruler.specs.declared.Ruler.{Ruler}
+use Rattle.ruler.specs.Ruler.{scale_of}
+use Rattle.ruler.specs.Made.{judge}
+use Rattle.layout.specs.declared.Refusal.{Refusal}
+use Rattle.layout.specs.Outcomes.{Accepted, ruler_if}
 use Rattle.layout.specs.Refusals.{frame_tests}
-use Rattle.store.specs.declared.frame.Framed.{Framed}
-use Rattle.store.specs.declared.frame.Framed.TheVariants.{For, Refused as Unframed}
 
-unfoldable pub framed_as : Numbers → Outcome → Framed
-framed_as n Accepted = For (ruler_of n)
-framed_as n (Refused why detail) = Unframed why
-
-unfoldable pub framed_of : Numbers → (directory : ℕ) → Framed
-framed_of n k = framed_as n (frame_tests (scale_of n) k Accepted)
+unfoldable pub framed_of : Numbers → (directory : ℕ) → Result Ruler Refusal
+framed_of n k = ruler_if (judge n) (frame_tests (scale_of n) k Accepted)

@@ -14,6 +14,10 @@ unfoldable pub climbs : List ℕ → Bool
 climbs [] = true
 climbs (x ∷ l) = climbs_from x l
 
+-- what a closure answers at each place below n is the key there
+abbrev pub TellsBelow : (n : ℕ) → (answers : ℕ → ℕ → Type 0) → (keys : ℕ → ℕ) → Type 0
+TellsBelow n answers keys = (k x : ℕ) → k < n → answers k x → x ≡ keys k
+
 -- the first word of each step, of as many whole steps as the words have
 unfoldable pub every_step : (step : ℕ) → List ℕ → List ℕ
 every_step step l = up_to (λ (k : ℕ). get_or l (step * k) 0) (length l / step)

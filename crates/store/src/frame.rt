@@ -4,24 +4,15 @@ ghost use Rattle.store.specs.Framing.{framed_of};
 
 use crate::counting::directory_length;
 use layout::Refusal;
-use ruler::{Judged, Numbers, Ruler};
+use ruler::{Numbers, Ruler};
 
-// The ruler that the numbers make, for a directory as long as it asks; or why there is none.
-#[derive(Clone, Copy)]
-pub enum Framed {
-    For(Ruler),
-    Refused(Refusal),
-}
-
-// The tests 1 and 3.
-pub fn ruler_for(numbers: Numbers, directory: &[u32]) -> Framed
+// The ruler that the numbers make, for a directory as long as it asks: the tests 1 and 3.
+pub fn ruler_for(numbers: Numbers, directory: &[u32]) -> Result<Ruler, Refusal>
     ensures { result ≡ framed_of numbers (length directory.now) }
 {
-    let Judged::Good(ruler) = Ruler::new(numbers) else {
-        return Framed::Refused(Refusal::RulerOutOfBounds);
-    };
+    let ruler = Ruler::new(numbers).ok_or(Refusal::RulerOutOfBounds)?;
     if directory.len() != directory_length(ruler.bottom()) {
-        return Framed::Refused(Refusal::DirectoryLength);
+        return Err(Refusal::DirectoryLength);
     }
-    Framed::For(ruler)
+    Ok(ruler)
 }

@@ -1,6 +1,7 @@
 // The layer between words and trips: a directory half and its arena as a list of slots, each a list of trips.
 #![tactic(auto)]
 
+mod climbing;
 pub mod counting;
 pub mod directory;
 pub mod entry;
@@ -14,3 +15,4 @@ pub mod part;
 pub mod places;
 pub mod search;
 pub mod slot;
+pub mod words;

@@ -1,6 +1,7 @@
 // The slots in which a trip has an entry, by a walk from the deepest level up.
 ghost use Rattle.std.specs.Prelude.{◌≡◌, cond, ◌+◌, ◌-◌, ◌*◌, ◌^◌, ◌<◌, ◌≤◌, length};
-ghost use Rattle.ruler.specs.Ruler.{deepest, Made, scale};
+ghost use Rattle.ruler.specs.Ruler.{deepest};
+ghost use Rattle.ruler.specs.Made.{scale};
 ghost use Rattle.layout.specs.declared.Half.TheVariants.{Replicas};
 ghost use Rattle.layout.specs.Words.{slot_number};
 ghost use Rattle.layout.specs.Refusals.{Fits};
@@ -36,11 +37,7 @@ fn slot_of(rank: u32, aft: bool) -> u32
     requires { rank < 2 ^ 31 - 1 }
     ensures { result ≡ 2 * rank + cond aft 1 0 }
 {
-    let first = 2 * rank;
-    if aft {
-        return first + 1;
-    }
-    first
+    2 * rank + u32::from(aft)
 }
 
 // The number of a partition's "in" slot or "aft" slot.
@@ -53,6 +50,7 @@ pub fn slot_number(partition: Cell, aft: bool) -> u32
 
 // Writes the slot of a partition at place n, if the test passes and a trip whose cells of that level are first .. last has its entry there in
 // this half; says how many slots are written then.
+// The test is handed in, so that one contract says both answers.
 fn visited(
     spots: &mut [u32],
     n: usize,
@@ -101,7 +99,8 @@ fn visited_at(
     )
 }
 
-// Writes the slots of a half in which a trip with the cells a .. b of the deepest level has an entry, and says how many.
+// Writes the slots of a half in which a trip with the cells a .. b of the deepest level has an entry, and says how many. Each turn is a level.
+// The room for slots is lent and used again for each row: one of its own would be cleared each time.
 pub fn slots_of(half: Half, a: Cell, b: Cell, spots: &mut [u32]) -> usize
     requires { (a.0 ≤ deepest) × (b.0 ≡ a.0) × (a.1 < 2 ^ a.0) × (b.1 < 2 ^ a.0) × (most_slots ≤ length spots.old) }
     ensures { (result ≡ length (slots_of half a.0 a.1 b.1)) × (spots.new ≡ over (slots_of half a.0 a.1 b.1) spots.old) }
@@ -111,6 +110,7 @@ pub fn slots_of(half: Half, a: Cell, b: Cell, spots: &mut [u32]) -> usize
     let mut hi = b.next();
     let mut first = a;
     let mut last = b;
+    // It climbs: no loop over the levels would say when the cells are used up.
     loop {
         if hi.no_later(lo) {
             return n;
@@ -134,16 +134,12 @@ fn home_level(a: Cell, b: Cell) -> u32
 {
     let begun = a.levels_begun();
     let spanned = a.levels_spanned(b);
-    if begun < spanned {
-        return a.level() - begun;
-    }
-    a.level() - spanned
+    a.level() - begun.min(spanned)
 }
 
 // The slot of a trip's original entry.
 pub fn home(ruler: Ruler, t: Trip) -> u32
-    requires made { Made ruler }
-    requires fits { Fits (scale ruler) t }
+    requires { Fits (scale ruler) t }
     ensures { result ≡ home (scale ruler) t }
 {
     let a = ruler.bottom_cell(t.start);
@@ -155,8 +151,7 @@ pub fn home(ruler: Ruler, t: Trip) -> u32
 
 // Writes the slots of a trip's replicas, by the cells of its times, and says how many.
 pub fn replica_slots(ruler: Ruler, t: Trip, spots: &mut [u32]) -> usize
-    requires made { Made ruler }
-    requires fits { Fits (scale ruler) t × (most_slots ≤ length spots.old) }
+    requires { Fits (scale ruler) t × (most_slots ≤ length spots.old) }
     ensures { (result ≡ length (slots_of_trip (scale ruler) Replicas t)) × (spots.new ≡ over (slots_of_trip (scale ruler) Replicas t) spots.old) }
 {
     let first = ruler.bottom_cell(t.start);
@@ -166,8 +161,7 @@ pub fn replica_slots(ruler: Ruler, t: Trip, spots: &mut [u32]) -> usize
 
 // Writes the slots of a half in which a trip has an entry, and says how many. Its one original needs no walk.
 pub fn trip_slots(ruler: Ruler, half: Half, t: Trip, spots: &mut [u32]) -> usize
-    requires made { Made ruler }
-    requires fits { Fits (scale ruler) t × (most_slots ≤ length spots.old) }
+    requires { Fits (scale ruler) t × (most_slots ≤ length spots.old) }
     ensures { (result ≡ length (slots_of_trip (scale ruler) half t)) × (spots.new ≡ over (slots_of_trip (scale ruler) half t) spots.old) }
 {
     match half {

@@ -7,6 +7,7 @@ use crate::{directory, entry, gap};
 use trip::Trip;
 
 // Puts a trip in at a place of a slot.
+// Its twin is bounded by what is there, and not by the room: one function for both would take that as cases.
 pub fn insert(dir: &mut [u32], arena: &mut [u32], slot: usize, pos: usize, t: Trip)
     requires { (ls : List (List Trip)) × Room dir.old arena.old ls slot pos }
     ensures { (ls : List (List Trip)) → Room dir.old arena.old ls slot pos

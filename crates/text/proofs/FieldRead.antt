@@ -1,6 +1,6 @@
 -- Laws of a field read as a number: which test decides, and what is known of the digits read so far.
 -- Assumes nothing.
-use mathlib.Core.Path.{◌≡◌, refl}
+use mathlib.Core.Path.{◌≡◌, refl, sym}
 use mathlib.Core.Bool.{true, false}
 use mathlib.Core.List.{List}
 use Prim.Native.Nat.{ℕ, ◌+◌, ◌-◌, ◌*◌, ◌^◌, ◌≤◌, ◌<◌}
@@ -12,7 +12,8 @@ use lib.Arith.{digits_lt}
 use lib.Dec.{lit<}
 use lib.ListN.{length, drop, get_or, drop_of_length-le}
 use lib.Seq.{drop-cons}
-use Rattle.text.specs.declared.Number.TheVariants.{Value, Malformed}
+use Rattle.std.specs.Prelude.{Some, None, Result, Ok, Err}
+use Rattle.std.specs.Result.{OkIff, result_ok}
 use Rattle.text.specs.Number.{
   base,
   most_digits,
@@ -32,32 +33,24 @@ pub is_digit_lem : (b : ℕ) → digit_zero ≤ b → b ≤ digit_nine → is_di
 unfolding is_digit
 is_digit_lem b low high = rw (le-leb digit_zero b low, le-leb b digit_nine high)
 
-pub below_digits : (b : ℕ) → b < digit_zero → is_digit b ≡ false
-unfolding is_digit
-below_digits b h = rw (lt-leb digit_zero b h)
-
-pub above_digits : (b : ℕ) → digit_nine < b → is_digit b ≡ false
-unfolding is_digit
-above_digits b h = rw (le-leb digit_zero b (omega arith), lt-leb b digit_nine h)
-
-pub no_digits : (l : List ℕ) → length l < 1 → number_of l ≡ Malformed
+pub no_digits : (l : List ℕ) → length l < 1 → number_of l ≡ None
 unfolding number_of is_number
 no_digits l h = rw (lt-leb 1 (length l) h)
 
-pub too_many : (l : List ℕ) → most_digits < length l → number_of l ≡ Malformed
+pub too_many : (l : List ℕ) → most_digits < length l → number_of l ≡ None
 unfolding number_of is_number
 too_many l h = rw (le-leb 1 (length l) (omega arith), lt-leb (length l) most_digits h)
 
 module _ (l : List ℕ) (some : 1 ≤ length l) (few : length l ≤ most_digits) where
-  pub not_digits : all_digits l ≡ false → number_of l ≡ Malformed
+  pub not_digits : all_digits l ≡ false → number_of l ≡ None
   unfolding number_of is_number
   not_digits e = rw (le-leb 1 (length l) some, le-leb (length l) most_digits few, e)
 
-  pub too_large : all_digits l ≡ true → 2 ^ 32 ≤ value_of l → number_of l ≡ Malformed
+  pub too_large : all_digits l ≡ true → 2 ^ 32 ≤ value_of l → number_of l ≡ None
   unfolding number_of is_number
   too_large e h = rw (le-leb 1 (length l) some, le-leb (length l) most_digits few, e, le-ltb (value_of l) (2 ^ 32) h)
 
-  pub a_number : all_digits l ≡ true → value_of l < 2 ^ 32 → number_of l ≡ Value (value_of l)
+  pub a_number : all_digits l ≡ true → value_of l < 2 ^ 32 → number_of l ≡ Some (value_of l)
   unfolding number_of is_number
   a_number e h = rw (le-leb 1 (length l) some, le-leb (length l) most_digits few, e, lt-ltb (value_of l) (2 ^ 32) h)
 
@@ -96,12 +89,16 @@ module _ (l : List ℕ) (i v : ℕ) (r : ReadTo l i v) where
   read_all h = let none = drop_of_length-le l {i = i} h in (rw (← r.digits_left, none), rw (← r.value_left, none))
 
   module _ (some : 1 ≤ length l) (few : length l ≤ most_digits) where
-    pub read_other : i < length l → is_digit (get_or l i 0) ≡ false → number_of l ≡ Malformed
+    pub read_other : i < length l → is_digit (get_or l i 0) ≡ false → number_of l ≡ None
     unfolding all_digits
     read_other h e = not_digits l some few (rw (← r.digits_left, drop-cons l i 0 h, e))
 
-    pub read_large : length l ≤ i → 2 ^ 32 ≤ v → number_of l ≡ Malformed
+    read_large : length l ≤ i → 2 ^ 32 ≤ v → number_of l ≡ None
     read_large h k = let e = read_all h in too_large l some few e.0 (rw e.1 k)
 
-    pub read_number : length l ≤ i → v < 2 ^ 32 → number_of l ≡ Value v
+    read_number : length l ≤ i → v < 2 ^ 32 → number_of l ≡ Some v
     read_number h k = let e = read_all h in rw (a_number l some few e.0 (rw e.1 k), e.1)
+
+    pub read_word : {E : Type 0} (r : Result ℕ E) → length l ≤ i → OkIff r (v < 2 ^ 32) v → result_ok r ≡ number_of l
+    read_word (Ok w) h e = rw e.1 (sym (read_number h e.0))
+    read_word (Err w) h e = sym (read_large h (omega arith))

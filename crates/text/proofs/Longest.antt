@@ -4,20 +4,17 @@
 use mathlib.Core.Path.{◌≡◌, refl}
 use mathlib.Core.Bool.{Bool, true, false, cond}
 use mathlib.Core.List.{List, [], ◌∷◌}
-use Prim.Native.Nat.{ℕ, suc, ◌+◌, ◌-◌, ◌*◌, ◌≤◌, ◌<◌}
+use Prim.Native.Nat.{ℕ, suc, ◌+◌, ◌*◌, ◌≤◌, ◌<◌}
 use native.Mathlib.Omega.{arith}
 use borrow.Author.Tests.{leb-true, leb-false}
 use lib.Dec.{leb, eqb}
 use lib.ListN.{length, take}
 use lib.Seq.{take_all, length-take-le}
-use Rattle.text.specs.declared.Number.{Number}
-use Rattle.text.specs.declared.Number.TheVariants.{Value, Malformed}
-use Rattle.text.specs.declared.LineNumbers.{LineNumbers}
-use Rattle.text.specs.declared.LineNumbers.TheVariants.{None, One, Two, Three, Four, Wrong}
-use Rattle.text.specs.declared.Command.TheVariants.{Bad}
+use Rattle.std.specs.Prelude.{Option, Some, None, option_and_then}
+use Rattle.std.proofs.lemmas.Option.{none-some, same_Some}
 use Rattle.text.specs.Bytes.{space, on_first, parted}
 use Rattle.text.specs.Number.{most_digits, number_of}
-use Rattle.text.specs.Command.{followed_by, numbers_after, numbers_of, command_of_fields, command_of, most_numbers, longest_line}
+use Rattle.text.specs.Command.{followed_by, numbers_of, form_of, command_of_fields, command_of, most_numbers, longest_line}
 use Rattle.text.proofs.Parting.{parted_first}
 use Rattle.text.proofs.FieldRead.{too_many}
 
@@ -40,57 +37,43 @@ size-parted s (b ∷ l) = go (eqb b s) (size-parted s l)
     go true e = omega arith
     go false e = rw (parted_first s l) (omega (arith, rw (parted_first s l) at e))
 
--- how many numbers there are; after wrong ones none may follow, as after the most
-abbrev counted : LineNumbers → ℕ
-counted None = 0
-counted (One a) = 1
-counted (Two a b) = 2
-counted (Three a b c) = 3
-counted (Four a b c d) = most_numbers
-counted Wrong = most_numbers
-
--- how many bytes the fields after these numbers may have
-abbrev room : LineNumbers → ℕ
-room ns = (most_numbers - counted ns) * most_field
-
-stays_wrong : (fs : List (List ℕ)) → numbers_after Wrong fs ≡ Wrong
-unfolding numbers_after
-stays_wrong [] = refl
-stays_wrong (f ∷ fs) = go (number_of f) (stays_wrong fs)
+-- as many numbers have no more bytes than the most digits each
+few_bytes : (fs : List (List ℕ)) (ns : List ℕ) → numbers_of fs ≡ Some ns → size fs ≤ length ns * most_field
+unfolding numbers_of
+few_bytes [] ns e = omega arith
+few_bytes (f ∷ fs) ns e = go (leb (length f) most_digits) refl (number_of f) refl (numbers_of fs) (few_bytes fs) e
   where
-    go : (x : Number) → numbers_after Wrong fs ≡ Wrong → numbers_after (followed_by Wrong x) fs ≡ Wrong
-    go Malformed e = e
-    go (Value n) e = e
+    go : (t : Bool) → leb (length f) most_digits ≡ t → (x : Option ℕ) → number_of f ≡ x
+        → (o : Option (List ℕ)) → ((ms : List ℕ) → o ≡ Some ms → size fs ≤ length ms * most_field)
+        → followed_by x o ≡ Some ns → suc (length f) + size fs ≤ length ns * most_field
+    go t few None is o rest e = absurd (none-some _ e)
+    go t few (Some n) is None rest e = absurd (none-some _ e)
+    go true few (Some n) is (Some ms) rest e =
+        rw (← same_Some _ _ e) (omega (arith, leb-true (length f) most_digits few, rest ms refl))
+    go false few (Some n) is (Some ms) rest e =
+        absurd (none-some n (rw (too_many f (leb-false (length f) most_digits few)) at is))
 
--- one field more, of few bytes, takes up its room
-one_more : (ns : LineNumbers) (x : Number) (n : ℕ) (fs : List (List ℕ)) → n ≤ most_digits → room ns < suc n + size fs
-    → ((ms : LineNumbers) → room ms < size fs → numbers_after ms fs ≡ Wrong) → numbers_after (followed_by ns x) fs ≡ Wrong
-one_more ns Malformed n fs few h rest = stays_wrong fs
-one_more None (Value a) n fs few h rest = rest (One a) (omega arith)
-one_more (One a) (Value b) n fs few h rest = rest (Two a b) (omega arith)
-one_more (Two a b) (Value c) n fs few h rest = rest (Three a b c) (omega arith)
-one_more (Three a b c) (Value d) n fs few h rest = rest (Four a b c d) (omega arith)
-one_more (Four a b c d) (Value e) n fs few h rest = stays_wrong fs
-one_more Wrong (Value a) n fs few h rest = stays_wrong fs
+-- no command has more numbers than the most
+no_form : (a : ℕ) (ns : List ℕ) → most_numbers < length ns → form_of a ns ≡ None
+no_form a [] h = refl
+no_form a (x ∷ []) h = absurd (omega arith)
+no_form a (x ∷ y ∷ []) h = absurd (omega arith)
+no_form a (x ∷ y ∷ z ∷ []) h = refl
+no_form a (x ∷ y ∷ z ∷ w ∷ []) h = absurd (omega arith)
+no_form a (x ∷ y ∷ z ∷ w ∷ v ∷ ns) h = refl
 
-long_numbers : (fs : List (List ℕ)) (ns : LineNumbers) → room ns < size fs → numbers_after ns fs ≡ Wrong
-unfolding numbers_after
-long_numbers [] ns h = absurd (omega arith)
-long_numbers (f ∷ fs) ns h = go (leb (length f) most_digits) refl (long_numbers fs)
-  where
-    go : (t : Bool) → leb (length f) most_digits ≡ t → ((ms : LineNumbers) → room ms < size fs → numbers_after ms fs ≡ Wrong)
-        → numbers_after (followed_by ns (number_of f)) fs ≡ Wrong
-    go true e rest = one_more ns (number_of f) (length f) fs (leb-true (length f) most_digits e) h rest
-    go false e rest = rw (too_many f (leb-false (length f) most_digits e)) (stays_wrong fs)
-
-long_fields : (fs : List (List ℕ)) → suc longest_line < size fs → command_of_fields fs ≡ Bad
-unfolding command_of_fields numbers_of
+long_fields : (fs : List (List ℕ)) → suc longest_line < size fs → command_of_fields fs ≡ None
+unfolding command_of_fields
 long_fields [] h = refl
 long_fields ([] ∷ fs) h = refl
-long_fields ((a ∷ []) ∷ fs) h = rw (long_numbers fs None (omega arith))
+long_fields ((a ∷ []) ∷ fs) h = go (numbers_of fs) refl
+  where
+    go : (o : Option (List ℕ)) → numbers_of fs ≡ o → option_and_then (form_of a) o ≡ None
+    go None e = refl
+    go (Some ns) e = no_form a ns (omega (arith, few_bytes fs ns e))
 long_fields ((a ∷ b ∷ l) ∷ fs) h = refl
 
-pub long_line : (l : List ℕ) → longest_line < length l → command_of l ≡ Bad
+pub long_line : (l : List ℕ) → longest_line < length l → command_of l ≡ None
 unfolding command_of
 long_line l h = long_fields (parted space l) (omega (arith, size-parted space l))
 

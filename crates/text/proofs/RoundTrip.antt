@@ -5,7 +5,7 @@ use mathlib.Core.Bool.{Bool, true, false, ◌&&◌}
 use mathlib.Core.List.{List, [], ◌∷◌, ◌++◌}
 use Prim.Native.Nat.{ℕ, ◌+◌, ◌-◌, ◌*◌, ◌%◌, ◌^◌, ◌<◌}
 use native.Mathlib.Omega.{arith}
-use Rattle.text.specs.declared.Number.TheVariants.{Value}
+use Rattle.std.specs.Prelude.{Some}
 use Rattle.text.specs.Number.{base, digit_zero, is_digit, all_digits, value_after, value_of, number_of}
 use Rattle.text.specs.Decimal.{digit, decimal}
 use Rattle.text.proofs.FieldRead.{is_digit_lem, a_number}
@@ -39,7 +39,7 @@ unfolding value_of value_after
 decimal_value =
     by_digits (λ n l. value_of l ≡ n) (λ n h. omega arith) (λ n l h p. rw (value_then l 0 (digit (n % base)), p) (omega arith))
 
-pub read_back : (n : ℕ) → n < 2 ^ 32 → number_of (decimal n) ≡ Value n
+pub read_back : (n : ℕ) → n < 2 ^ 32 → number_of (decimal n) ≡ Some n
 read_back n h =
     let value = decimal_value n in
     rw (a_number (decimal n) (some-digit n) (ten_digits n h) (decimal_digits n) (rw value h), value)

@@ -1,8 +1,6 @@
 -- What a field is as a number.
-use Rattle.std.specs.Prelude.{Bool, true, cond, ◌&&◌, List, [], ◌∷◌, ℕ, ◌+◌, ◌-◌, ◌*◌, ◌^◌, leb, ltb, length}
+use Rattle.std.specs.Prelude.{Bool, true, cond, Option, Some, None, ◌&&◌, List, [], ◌∷◌, ℕ, ◌+◌, ◌-◌, ◌*◌, ◌^◌, leb, ltb, length}
 use Prim.Native.Char.{code}
-use Rattle.text.specs.declared.Number.{Number}
-use Rattle.text.specs.declared.Number.TheVariants.{Value, Malformed}
 
 -- "decimal digits"
 abbrev pub base : ℕ
@@ -36,5 +34,5 @@ most_digits = 10
 unfoldable pub is_number : List ℕ → Bool
 is_number l = leb 1 (length l) && leb (length l) most_digits && all_digits l && ltb (value_of l) (2 ^ 32)
 
-unfoldable pub number_of : List ℕ → Number
-number_of l = cond (is_number l) (Value (value_of l)) Malformed
+unfoldable pub number_of : List ℕ → Option ℕ
+number_of l = cond (is_number l) (Some (value_of l)) None

@@ -3,19 +3,17 @@
 #![tactic(auto)]
 
 ghost use Rattle.std.specs.Prelude.{◌≡◌, ◌≤◌, length, drop};
-ghost use Rattle.text.specs.Bytes.{space, parted, place_of};
+ghost use Rattle.text.specs.Bytes.{space, place_of};
 ghost use Rattle.text.specs.Number.{number_of};
-ghost use Rattle.text.specs.Command.{followed_by, numbers_of, form_of, command_of};
+ghost use Rattle.text.specs.Command.{numbers_left, exactly, command_of};
 ghost use Rattle.text.specs.Decimal.{decimal, written, written_of};
 ghost use Rattle.lists.specs.Lists.{over};
 
 // The byte between the fields of a line.
 const SPACE: u8 = b' ';
 
-// The first digit and the last.
+// The first digit.
 const ZERO: u8 = b'0';
-
-const NINE: u8 = b'9';
 
 // The letter of a line that gives the ruler, of one that adds a trip, of one that removes one, and of a question.
 const RULER: u8 = b'D';
@@ -26,25 +24,18 @@ const REMOVE: u8 = b'X';
 
 const ASK: u8 = b'Q';
 
-// Where a line's letter ends, and where its numbers start, after a space.
-const LETTER_END: usize = 1;
-
-const NUMBERS_START: usize = 2;
-
 // Numbers are decimal.
 const BASE: u32 = 10;
 
-// The largest u32, and how many digits a number has at most.
-const MOST_VALUE: u64 = 0xffff_ffff;
-
+// How many digits a number has at most.
 pub const MOST_DIGITS: usize = 10;
 
 // How many numbers a line has at most, and so how many bytes a line that means something: a letter, and each number after a space.
 const MOST_NUMBERS: usize = 4;
 
-pub const LONGEST_LINE: usize = LETTER_END + MOST_NUMBERS * (1 + MOST_DIGITS);
+pub const LONGEST_LINE: usize = 1 + MOST_NUMBERS * (1 + MOST_DIGITS);
 
-// What a line means. Bad is a malformed line.
+// What a line means.
 #[derive(Clone, Copy)]
 pub enum Command {
     Ruler {
@@ -66,179 +57,90 @@ pub enum Command {
         end: u32,
         day: u32,
     },
-    Bad,
-}
-
-// What a field is as a number.
-#[derive(Clone, Copy)]
-pub enum Number {
-    Value(u32),
-    Malformed,
-}
-
-// The numbers of a line. No line has more than four, so more are Wrong, and so are any with a malformed one among them.
-#[derive(Clone, Copy)]
-pub enum LineNumbers {
-    None,
-    One(u32),
-    Two(u32, u32),
-    Three(u32, u32, u32),
-    Four(u32, u32, u32, u32),
-    Wrong,
-}
-
-// The first place of a byte from a place on. Where there is none it is the end of the bytes, or `from` where that is past the end.
-fn find(bytes: &[u8], from: usize, byte: u8) -> usize
-    ensures { result ≡ place_of byte bytes.now from }
-{
-    let mut i = from;
-    while i < bytes.len() {
-        if bytes[i] == byte {
-            return i;
-        }
-        i += 1;
-    }
-    i
 }
 
 // Where the field that begins at `from` ends: at the space after it, or at the end of the bytes.
 pub fn field_end(bytes: &[u8], from: usize) -> usize
     ensures { result ≡ place_of space bytes.now from }
 {
-    find(bytes, from, SPACE)
+    let rest = &bytes[from.min(bytes.len())..];
+    from + rest.iter().take_while(|byte| **byte != SPACE).count()
 }
 
-// A field as a number. The length is judged first: ten digits fit a u64, so the value can be judged once, at the end.
-pub fn number_of(field: &[u8]) -> Number
+// A field as a number. The length is judged first: ten digits fit a u64, so the value can be judged once, at the end. The
+// library's parse takes a sign too.
+pub fn number_of(field: &[u8]) -> Option<u32>
     ensures { result ≡ number_of field.now }
 {
-    if field.len() == 0 {
-        return Number::Malformed;
-    }
-    if MOST_DIGITS < field.len() {
-        return Number::Malformed;
+    if field.is_empty() || MOST_DIGITS < field.len() {
+        return None;
     }
     let mut value: u64 = 0;
-    let mut i = 0;
-    while i < field.len() {
-        let digit = field[i];
-        if digit < ZERO {
-            return Number::Malformed;
+    for byte in field {
+        if !byte.is_ascii_digit() {
+            return None;
         }
-        if NINE < digit {
-            return Number::Malformed;
-        }
-        value = value * (BASE as u64) + ((digit - ZERO) as u64);
-        i += 1;
+        value = value * (BASE as u64) + u64::from(*byte - ZERO);
     }
-    if MOST_VALUE < value {
-        return Number::Malformed;
-    }
-    Number::Value(value as u32)
+    u32::try_from(value).ok()
 }
 
-// The numbers, with one more after them.
-fn followed_by(numbers: LineNumbers, number: Number) -> LineNumbers
-    ensures { result ≡ followed_by numbers number }
+// The N numbers after a line's letter, each after a space, where nothing else is there.
+fn numbers<const N: usize>(after_letter: &[u8]) -> Option<[u32; N]>
+    ensures { result ≡ exactly N (numbers_left after_letter.now) }
 {
-    match number {
-        Number::Malformed => LineNumbers::Wrong,
-        Number::Value(n) => match numbers {
-            LineNumbers::None => LineNumbers::One(n),
-            LineNumbers::One(a) => LineNumbers::Two(a, n),
-            LineNumbers::Two(a, b) => LineNumbers::Three(a, b, n),
-            LineNumbers::Three(a, b, c) => LineNumbers::Four(a, b, c, n),
-            LineNumbers::Four(_, _, _, _) => LineNumbers::Wrong,
-            LineNumbers::Wrong => LineNumbers::Wrong,
-        },
+    let mut numbers = [0; N];
+    let mut left = after_letter;
+    for number in numbers.iter_mut() {
+        let fields = left.strip_prefix(&[SPACE])?;
+        let (field, rest) = fields.split_at(field_end(fields, 0));
+        *number = number_of(field)?;
+        left = rest;
     }
+    if left.is_empty() { Some(numbers) } else { None }
 }
 
-// The numbers of a line's fields from `start` on. A space at the very end has an empty field after it, so a field may begin at
-// the line's length, and only past that is there none.
-fn numbers_of(line: &[u8], start: usize) -> LineNumbers
-    requires { start ≤ length line.now }
-    ensures { result ≡ numbers_of (parted space (drop start line.now)) }
-{
-    let mut numbers = LineNumbers::None;
-    let mut from = start;
-    while from <= line.len() {
-        let end = find(line, from, SPACE);
-        let number = number_of(&line[from..end]);
-        numbers = followed_by(numbers, number);
-        from = end + 1;
-    }
-    numbers
-}
-
-// The command of a letter and numbers: each letter has its own count of them.
-fn form_of(letter: u8, numbers: LineNumbers) -> Command
-    ensures { result ≡ form_of letter numbers }
-{
-    match numbers {
-        LineNumbers::One(id) => {
-            if letter == REMOVE {
-                Command::Remove { id }
-            } else {
-                Command::Bad
-            }
-        }
-        LineNumbers::Two(w, m) => {
-            if letter == RULER {
-                Command::Ruler { w, m }
-            } else {
-                Command::Bad
-            }
-        }
-        LineNumbers::Four(a, start, end, last) => {
-            if letter == ADD {
-                Command::Add {
-                    id: a,
-                    start,
-                    end,
-                    days: last,
-                }
-            } else if letter == ASK {
-                Command::Ask {
-                    code: a,
-                    start,
-                    end,
-                    day: last,
-                }
-            } else {
-                Command::Bad
-            }
-        }
-        LineNumbers::None => Command::Bad,
-        LineNumbers::Three(_, _, _) => Command::Bad,
-        LineNumbers::Wrong => Command::Bad,
-    }
-}
-
-// What a line means, given without its newline. A line too short to hold a number is malformed, as no command is without one.
-pub fn command_of(line: &[u8]) -> Command
+// What a line means, given without its newline: each letter has its own count of numbers. A malformed line means nothing.
+pub fn command_of(line: &[u8]) -> Option<Command>
     ensures { result ≡ command_of line.now }
 {
-    if line.len() < NUMBERS_START {
-        return Command::Bad;
+    let (letter, rest) = line.split_first()?;
+    match *letter {
+        RULER => {
+            let [w, m] = numbers::<2>(rest)?;
+            Some(Command::Ruler { w, m })
+        }
+        ADD => {
+            let [id, start, end, days] = numbers::<4>(rest)?;
+            Some(Command::Add {
+                id,
+                start,
+                end,
+                days,
+            })
+        }
+        REMOVE => {
+            let [id] = numbers::<1>(rest)?;
+            Some(Command::Remove { id })
+        }
+        ASK => {
+            let [code, start, end, day] = numbers::<4>(rest)?;
+            Some(Command::Ask {
+                code,
+                start,
+                end,
+                day,
+            })
+        }
+        _ => None,
     }
-    if find(line, 0, SPACE) != LETTER_END {
-        return Command::Bad;
-    }
-    form_of(line[0], numbers_of(line, NUMBERS_START))
 }
 
-// How many digits a number has.
+// How many digits a number has. 0 has one, as 1 has.
 fn digit_count(n: u32) -> usize
     ensures { result ≡ length (decimal n) }
 {
-    let mut left = n;
-    let mut count = 1;
-    while BASE <= left {
-        left /= BASE;
-        count += 1;
-    }
-    count
+    n.max(1).ilog10() as usize + 1
 }
 
 // Writes the digits of a number at the front of `out`, the last digit first, since division gives them in that order.
@@ -247,17 +149,14 @@ fn put_digits(n: u32, count: usize, out: &mut [u8])
     ensures { out.new ≡ over (decimal n) out.old }
 {
     let mut left = n;
-    let mut i = count - 1;
-    while BASE <= left {
-        out[i] = ZERO + ((left % BASE) as u8);
+    for i in (0..count).rev() {
+        out[i] = ZERO + (left % BASE) as u8;
         left /= BASE;
-        i -= 1;
     }
-    out[i] = ZERO + (left as u8);
 }
 
 // Writes a number at the front of `out` and gives how many bytes it took. Where it has no room, it takes 0 and `out` stays as it
-// was. MOST_DIGITS bytes are room for any number.
+// was. MOST_DIGITS bytes are room for any number. No Display: the bytes are lent, and their number is promised.
 pub fn write_number(n: u32, out: &mut [u8]) -> usize
     ensures { written result out.new ≡ written_of n out.old }
 {

@@ -1,4 +1,5 @@
 -- The codes and the relationships that they name, both ways; and that a code names nothing exactly where it is above 13.
+use Rattle.std.proofs.Common.{None, Some}
 use mathlib.Core.Path.{◌≡◌, refl}
 use mathlib.Core.Bool.{true}
 use Prim.Native.Nat.{ℕ}
@@ -7,10 +8,9 @@ use lib.ListN.{get_or-eq_default}
 use borrow.Author.Tests.{ltb-true}
 use Rattle.trip.specs.declared.Relationship.{Relationship}
 use Rattle.trip.specs.declared.Relationship.TheVariants.{Equals, Starts, StartedBy, Finishes, FinishedBy, Meets, MetBy, Overlaps, OverlappedBy, Contains, ContainedBy, Before, After, GOverlaps}
-use Rattle.trip.specs.declared.Named.TheVariants.{As, Nothing}
 use Rattle.trip.specs.Relationships.{code_of, last_code, in_order, named}
 
-pub named_code : (r : Relationship) → named (code_of r) ≡ As r
+pub named_code : (r : Relationship) → named (code_of r) ≡ Some r
 unfolding code_of
 named_code Equals = refl
 named_code Starts = refl
@@ -27,5 +27,5 @@ named_code Before = refl
 named_code After = refl
 named_code GOverlaps = refl
 
-pub named_nothing : (code : ℕ) → ltb last_code code ≡ true → named code ≡ Nothing
-named_nothing code e = get_or-eq_default in_order Nothing {n = code} (ltb-true last_code code e)
+pub named_nothing : (code : ℕ) → ltb last_code code ≡ true → named code ≡ None
+named_nothing code e = get_or-eq_default in_order None {n = code} (ltb-true last_code code e)

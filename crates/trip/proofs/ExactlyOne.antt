@@ -1,5 +1,7 @@
 -- Document 02, T-02: "exactly one of codes 0 to 12 holds for any window and trip, points too". Computed for all windows and trips of the times 0 to 3; any
 -- other window and trip stand as the ranks of their four times do.
+use Rattle.trip.specs.declared.Relationship.{Relationship}
+use Rattle.std.proofs.Common.{None, Option, Some}
 use mathlib.Core.Path.{◌≡◌, refl, sym, ap₂, ◌∙◌}
 use mathlib.Core.Bool.{Bool, not, ◌&&◌, ◌||◌, and_comm}
 use mathlib.Core.List.Memᴰ.{head as here}
@@ -14,8 +16,6 @@ use Rattle.lists.proofs.Upto.{every-up_to}
 use Rattle.trip.specs.declared.Trip.{Trip}
 use Rattle.trip.specs.declared.Window.{Window}
 use Rattle.trip.specs.declared.Relationship.TheVariants.{Before, After, GOverlaps}
-use Rattle.trip.specs.declared.Named.{Named}
-use Rattle.trip.specs.declared.Named.TheVariants.{As, Nothing}
 use Rattle.trip.specs.Relationships.{named, related, thirteen, holds_by, code_holds}
 use Rattle.trip.specs.Trips.{trip_of, window_of}
 use Rattle.trip.proofs.Ranks.{no_later_lem, rank, rank_rises, rank_below, four, ranked_window, ranked_trip, by_rank}
@@ -56,9 +56,9 @@ module _ (q : Window) (s : Trip) (forward : q.start.0 ≤ q.end.0) (runs : s.sta
   unfolding holds_by
   by_ranks code = go (named code)
     where
-      go : (n : Named) → holds_by n q s ≡ holds_by n (ranked_window q s) (ranked_trip q s)
-      go (As r) = sym (by_rank q s r)
-      go Nothing = refl
+      go : (n : Option Relationship) → holds_by n q s ≡ holds_by n (ranked_window q s) (ranked_trip q s)
+      go (Some r) = sym (by_rank q s r)
+      go None = refl
 
   pub all_thirteen : count (λ code. code_holds code q s) thirteen ≡ 1
   all_thirteen =

@@ -1,13 +1,11 @@
 -- Document 01, "Relationships, question q against trip s", as definitions, with document 02's rows for MEETS and MET_BY (T-02). Every test is a
 -- Bool and computes.
-use Rattle.std.specs.Prelude.{Bool, false, ◌&&◌, List, [], ◌∷◌, ℕ, get_or}
+use Rattle.std.specs.Prelude.{Bool, false, ◌&&◌, List, [], ◌∷◌, ℕ, get_or, None, Option, Some}
 use Rattle.ruler.specs.Ruler.{before, same_time, no_later}
 use Rattle.trip.specs.declared.Trip.{Trip}
 use Rattle.trip.specs.declared.Window.{Window}
 use Rattle.trip.specs.declared.Relationship.{Relationship}
 use Rattle.trip.specs.declared.Relationship.TheVariants.{Equals, Starts, StartedBy, Finishes, FinishedBy, Meets, MetBy, Overlaps, OverlappedBy, Contains, ContainedBy, Before, After, GOverlaps}
-use Rattle.trip.specs.declared.Named.{Named}
-use Rattle.trip.specs.declared.Named.TheVariants.{As, Nothing}
 
 -- the column "Code"
 unfoldable pub code_of : Relationship → ℕ
@@ -30,26 +28,26 @@ abbrev pub last_code : ℕ
 last_code = 13
 
 -- the relationships in the order of their codes, and what a code names (the law `named_code` ties it to `code_of`)
-abbrev pub in_order : List Named
+abbrev pub in_order : List (Option Relationship)
 in_order =
-    As Equals
-    ∷ As Starts
-    ∷ As StartedBy
-    ∷ As Finishes
-    ∷ As FinishedBy
-    ∷ As Meets
-    ∷ As MetBy
-    ∷ As Overlaps
-    ∷ As OverlappedBy
-    ∷ As Contains
-    ∷ As ContainedBy
-    ∷ As Before
-    ∷ As After
-    ∷ As GOverlaps
+    Some Equals
+    ∷ Some Starts
+    ∷ Some StartedBy
+    ∷ Some Finishes
+    ∷ Some FinishedBy
+    ∷ Some Meets
+    ∷ Some MetBy
+    ∷ Some Overlaps
+    ∷ Some OverlappedBy
+    ∷ Some Contains
+    ∷ Some ContainedBy
+    ∷ Some Before
+    ∷ Some After
+    ∷ Some GOverlaps
     ∷ []
 
-abbrev pub named : (code : ℕ) → Named
-named code = get_or in_order code Nothing
+abbrev pub named : (code : ℕ) → Option Relationship
+named code = get_or in_order code None
 
 -- the column "Holds when": the window q against the trip s. "MEETS shall hold when q.st < q.end = s.st < s.end, and MET_BY when
 -- s.st < s.end = q.st < q.end."
@@ -76,9 +74,9 @@ abbrev pub thirteen : ℕ
 thirteen = 13
 
 -- whether what a code names holds; a code that names nothing holds of nothing
-unfoldable pub holds_by : Named → Window → Trip → Bool
-holds_by (As r) q s = related r q s
-holds_by Nothing q s = false
+unfoldable pub holds_by : Option Relationship → Window → Trip → Bool
+holds_by (Some r) q s = related r q s
+holds_by None q s = false
 
 abbrev pub code_holds : (code : ℕ) → Window → Trip → Bool
 code_holds code = holds_by (named code)

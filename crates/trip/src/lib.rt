@@ -8,7 +8,7 @@ ghost use Rattle.trip.specs.Trips.{trip_of, same_trip, runs_on_any, never_runs, 
 use ruler::Time;
 
 // A trip's running time, closed at both ends, and a bit for each day on which it runs.
-#[derive(Clone, Copy)]
+#[derive(Clone, Copy, PartialEq, Eq)]
 pub struct Trip {
     pub id: u32,
     pub start: Time,
@@ -29,17 +29,16 @@ impl Trip {
         }
     }
 
-    // Whether another trip has the same words.
+    // Whether another trip has the same words: a promise of its own (docs/PUBLIC.md).
+    #[tactic(auto, unfolding(crate::specs::Trips::same_trip))]
     pub fn same(self, other: Trip) -> bool
         ensures { result ≡ same_trip self other }
     {
-        let start = self.start;
-        let end = self.end;
-        (self.id == other.id)
-            & (start.same(other.start) & (end.same(other.end) & (self.days == other.days)))
+        self == other
     }
 
     // Whether it runs on one of these days.
+    #[tactic(auto, unfolding(crate::specs::Trips::runs_on_any))]
     pub fn runs_on_any(self, days: u32) -> bool
         ensures { result ≡ runs_on_any days self }
     {
@@ -47,6 +46,7 @@ impl Trip {
     }
 
     // Whether it runs on no day at all.
+    #[tactic(auto, unfolding(crate::specs::Trips::never_runs))]
     pub fn never_runs(self) -> bool
         ensures { result ≡ never_runs self }
     {
@@ -121,32 +121,27 @@ pub struct Question {
     pub day: u32,
 }
 
-// What a code names.
-#[derive(Clone, Copy)]
-pub enum Named {
-    As(Relationship),
-    Nothing,
-}
-
-pub fn relationship_of(code: u32) -> Named
+// The relationship that a code names.
+// An Option and no TryFrom: there is nothing to say of a code that names nothing.
+pub fn relationship_of(code: u32) -> Option<Relationship>
     ensures { result ≡ named code }
 {
     match code {
-        0 => Named::As(Relationship::Equals),
-        1 => Named::As(Relationship::Starts),
-        2 => Named::As(Relationship::StartedBy),
-        3 => Named::As(Relationship::Finishes),
-        4 => Named::As(Relationship::FinishedBy),
-        5 => Named::As(Relationship::Meets),
-        6 => Named::As(Relationship::MetBy),
-        7 => Named::As(Relationship::Overlaps),
-        8 => Named::As(Relationship::OverlappedBy),
-        9 => Named::As(Relationship::Contains),
-        10 => Named::As(Relationship::ContainedBy),
-        11 => Named::As(Relationship::Before),
-        12 => Named::As(Relationship::After),
-        13 => Named::As(Relationship::GOverlaps),
-        _ => Named::Nothing,
+        0 => Some(Relationship::Equals),
+        1 => Some(Relationship::Starts),
+        2 => Some(Relationship::StartedBy),
+        3 => Some(Relationship::Finishes),
+        4 => Some(Relationship::FinishedBy),
+        5 => Some(Relationship::Meets),
+        6 => Some(Relationship::MetBy),
+        7 => Some(Relationship::Overlaps),
+        8 => Some(Relationship::OverlappedBy),
+        9 => Some(Relationship::Contains),
+        10 => Some(Relationship::ContainedBy),
+        11 => Some(Relationship::Before),
+        12 => Some(Relationship::After),
+        13 => Some(Relationship::GOverlaps),
+        _ => None,
     }
 }
 
@@ -160,19 +155,19 @@ pub fn stands_so(relationship: Relationship, q: Window, s: Trip) -> bool
     let ss = s.start;
     let se = s.end;
     match relationship {
-        Relationship::Equals => qs.same(ss) & qe.same(se),
-        Relationship::Starts => qs.same(ss) & qe.before(se),
-        Relationship::StartedBy => qs.same(ss) & se.before(qe),
-        Relationship::Finishes => ss.before(qs) & qe.same(se),
-        Relationship::FinishedBy => qs.before(ss) & qe.same(se),
-        Relationship::Meets => qs.before(qe) & qe.same(ss) & ss.before(se),
-        Relationship::MetBy => ss.before(se) & se.same(qs) & qs.before(qe),
-        Relationship::Overlaps => qs.before(ss) & ss.before(qe) & qe.before(se),
-        Relationship::OverlappedBy => ss.before(qs) & qs.before(se) & se.before(qe),
-        Relationship::Contains => qs.before(ss) & se.before(qe),
-        Relationship::ContainedBy => ss.before(qs) & qe.before(se),
-        Relationship::Before => qe.before(ss),
-        Relationship::After => se.before(qs),
-        Relationship::GOverlaps => qs.no_later(se) & ss.no_later(qe),
+        Relationship::Equals => (qs == ss) & (qe == se),
+        Relationship::Starts => (qs == ss) & (qe < se),
+        Relationship::StartedBy => (qs == ss) & (se < qe),
+        Relationship::Finishes => (ss < qs) & (qe == se),
+        Relationship::FinishedBy => (qs < ss) & (qe == se),
+        Relationship::Meets => (qs < qe) & (qe == ss) & (ss < se),
+        Relationship::MetBy => (ss < se) & (se == qs) & (qs < qe),
+        Relationship::Overlaps => (qs < ss) & (ss < qe) & (qe < se),
+        Relationship::OverlappedBy => (ss < qs) & (qs < se) & (se < qe),
+        Relationship::Contains => (qs < ss) & (se < qe),
+        Relationship::ContainedBy => (ss < qs) & (qe < se),
+        Relationship::Before => (qe < ss),
+        Relationship::After => (se < qs),
+        Relationship::GOverlaps => (qs <= se) & (ss <= qe),
     }
 }

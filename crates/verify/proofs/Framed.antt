@@ -1,4 +1,5 @@
 -- The frame of a slot: a trip that fits the ruler stands in a slot exactly if it starts and ends in the slot's frame.
+use mathlib.Core.Logic.{◌≢◌}
 use mathlib.Core.Path.{◌≡◌, refl, ap, fun_ext}
 use mathlib.Core.Bool.{Bool, true, false, cond, not, ◌&&◌, ◌||◌}
 use mathlib.Core.List.{List}
@@ -120,6 +121,10 @@ to_held m (suc L) i a b h w =
 pub odd_below : (L i : ℕ) → i < 2 ^ L → i % 2 ≡ 1 → 0 < L
 odd_below zero i l e = absurd (omega arith)
 odd_below (suc L) i l e = omega arith
+
+-- the parent of an odd partition
+pub parent_in : (L i : ℕ) → i < 2 ^ L → i % 2 ≢ 0 → i / 2 < 2 ^ (L - 1)
+parent_in L i l odd = parent_lt L i (odd_below L i l (omega arith)) l
 
 -- ---- where the trips of a slot start
 

@@ -36,6 +36,11 @@ either : (b : Bool) (low half : ℕ) → low + cond b half 0 ≡ cond b (low + h
 either true low half = refl
 either false low half = omega arith
 
+-- the middle of the places left is a place of the part
+pub middle_in : (part : List ℕ) (key low width : ℕ) → Narrowed key (keys_at (key_place OIn) part) low width
+    → low + width / 2 < length part / entry_words
+middle_in part key low width w = let inside = w.inside in omega (arith, w.some, rw length-up_to at inside)
+
 module _ (part : List ℕ) (t : Trip) (key : ℕ) (e : key ≡ key_by (key_place OIn) t) where
   -- a part with no entries has it not
   pub found_nowhere : length part / entry_words ≡ 0 → false ≡ some (same_trip t) (rows part)
@@ -51,8 +56,7 @@ module _ (part : List ℕ) (t : Trip) (key : ℕ) (e : key ≡ key_by (key_place
       let l = keys_at (key_place OIn) part in
       let n = length part / entry_words in
       let k = low + width / 2 in
-      let inside = w.inside in
-      let at : get_or l k 0 ≡ there = get_or_up_to (λ j. key_by (key_place OIn) (trip_at part j)) n k 0 (omega (arith, rw length-up_to at inside)) ∙ sym f in
+      let at : get_or l k 0 ≡ there = get_or_up_to (λ j. key_by (key_place OIn) (trip_at part j)) n k 0 (middle_in part key low width w) ∙ sym f in
       let step = narrow_step key l low width w (keys_climb OIn part small in_rows) h in
       subst (λ (x : ℕ). Narrowed key l x (width - width / 2))
       (ap (λ (x : ℕ). low + cond (leb x key) (width / 2) 0) at ∙ either (leb there key) low (width / 2) ∙ sym g) step
@@ -63,8 +67,7 @@ module _ (part : List ℕ) (t : Trip) (key : ℕ) (e : key ≡ key_by (key_place
   found_there low width w h =
       let n = length part / entry_words in
       let keys : ℕ → ℕ = λ k. key_by (key_place OIn) (trip_at part k) in
-      let inside = w.inside in
-      let l : low < n = omega (arith, w.some, rw length-up_to at inside) in
+      let l : low < n = omega (arith, middle_in part key low width w) in
       let m : Mem (get_or (rows part) low no_trip) (rows part) = at_mem no_trip (rows part) low (rw length-rows l) in
       bool_ext (same_trip t (trip_at part low)) (some (same_trip t) (rows part))
       (to_some (same_trip t) (rows part) (trip_at part low) (rw (get_or_rows part low no_trip l) at m))

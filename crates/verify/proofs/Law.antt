@@ -1,5 +1,5 @@
 -- The local tests pass exactly where the definition's test of an index does.
-use mathlib.Core.Path.{◌≡◌, refl, sym, ap, ◌∙◌}
+use mathlib.Core.Path.{◌≡◌, sym, ap, ◌∙◌}
 use mathlib.Core.Bool.{◌&&◌}
 use mathlib.Core.List.{List, Memᴰ as Mem}
 use Prim.Native.Nat.{ℕ, ◌+◌, ◌-◌, ◌*◌, ◌<◌}
@@ -12,7 +12,8 @@ use Rattle.lists.proofs.Tests.{of_and, to_and, to_T}
 use Rattle.lists.proofs.Members.{In, of_joined, to_joined}
 use Rattle.lists.proofs.Joined.{joined_ext}
 use Rattle.ruler.specs.declared.Ruler.{Ruler}
-use Rattle.ruler.specs.Ruler.{Scale, most_trips, Made, scale}
+use Rattle.ruler.specs.Ruler.{Scale, most_trips}
+use Rattle.ruler.specs.Made.{scale}
 use Rattle.ruler.proofs.Fair.{Fair}
 use Rattle.trip.specs.declared.Trip.{Trip}
 use Rattle.trip.specs.Trips.{same_trip}
@@ -32,7 +33,7 @@ use Rattle.store.specs.Ids.{ids_differ}
 use Rattle.store.proofs.Differing.{of_ids_differ, to_ids_differ}
 use Rattle.store.specs.Homes.{home}
 use Rattle.store.specs.Halves.{total}
-use Rattle.store.proofs.Halves.{total_at, two_halves, first_lent, second_lent, first_long, second_long}
+use Rattle.store.proofs.Halves.{total_at}
 use Rattle.verify.specs.Passing.{each, some}
 use Rattle.verify.specs.Local.{half_ok, slot_at, trips_of, stands_at, slot_ok, slots_ok, is_known, counts_to, halves_ok, all_slots_ok, trips_ok, locally}
 use Rattle.verify.proofs.Passing.{bool_ext, of_below, to_below, of_each, to_each, of_some, to_some, row_passes, row_sorted, to_row}
@@ -183,18 +184,9 @@ module _ (s : Scale) (fair : Fair s) (x : Index) (good : T s.good) (long : lengt
       let w = of_locally s fair o x.originals r x.replicas o_length r_length t in
       to_is_index s x (local_index s fair x _ _ good long (record { in_originals = w.0; in_replicas = w.1; proper = w.2 })))
 
--- the same of a ruler, for the two halves as the code lends them
-module _ (r : Ruler) (d : List ℕ) (good : Made r) (long : length d ≡ directory_length (scale r).m) {h : ℕ}
+-- the same of a ruler, for the two halves as the code splits the directory
+module _ (r : Ruler) (d : List ℕ) (long : length d ≡ directory_length (scale r).m) {h : ℕ}
     (half : h ≡ half_length (scale r).m) where
-  both : length d ≡ h + h
-  both = two_halves (scale r).m long half
-
-  pub halves_long : (length (take (h - 0) d) ≡ half_length (scale r).m) × (length (take (length d - h) (drop h d)) ≡ half_length (scale r).m)
-  halves_long = (first_long d h (length d) both refl ∙ half, second_long d h (length d) both refl ∙ half)
-
-  pub halves-index : (orig repl : List ℕ)
-      → is_index (scale r) (index d orig repl) ≡ locally (scale r) (take (h - 0) d) orig (take (length d - h) (drop h d)) repl
+  pub halves-index : (orig repl : List ℕ) → is_index (scale r) (index d orig repl) ≡ locally (scale r) (take h d) orig (drop h d) repl
   unfolding originals_half replicas_half
-  halves-index orig repl =
-      rw (first_lent d h (length d) both refl, second_lent d h (length d) both refl, half)
-      (locally-index (scale r) (fair_ruler r good) (index d orig repl) (to_T (good-ruler r good)) long)
+  halves-index orig repl = rw half (locally-index (scale r) (fair_ruler r) (index d orig repl) (to_T (good-ruler r)) long)

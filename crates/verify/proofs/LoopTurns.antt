@@ -10,8 +10,7 @@ use lib.Bits.{bit_or, or_add_and, and_le_r}
 use lib.Dec.{eqb}
 use lib.ListN.{length, get_or, drop, drop_of_length-le}
 use lib.Seq.{drop-cons}
-use borrow.Author.Tests.{le-leb, lt-leb, lt-ltb, le-ltb, ne_eqb}
-use Rattle.lists.specs.Lists.{sum_over}
+use borrow.Author.Tests.{lt-ltb, le-ltb, ne_eqb}
 use Rattle.lists.proofs.Tests.{of_T, to_T}
 use Rattle.lists.proofs.Halving.{at_mem}
 use Rattle.trip.specs.declared.Trip.{Trip}
@@ -21,7 +20,7 @@ use Rattle.layout.proofs.Rows.{length-rows, get_or_rows}
 use Rattle.store.specs.Entries.{word_end}
 use Rattle.store.specs.Ordered.{no_trip, key_place, key_by}
 use Rattle.store.proofs.SlotKeys.{key_below}
-use Rattle.verify.specs.Passing.{below, each, after, in_row, rising, blank}
+use Rattle.verify.specs.Passing.{below, each, after, in_row, blank}
 use Rattle.verify.proofs.Passing.{of_each}
 
 -- ---- words
@@ -44,18 +43,6 @@ module _ (xs : List ℕ) (i : ℕ) where
   pub blank_end : (any : ℕ) → length xs ≤ i → eqb any 0 && blank (drop i xs) ≡ eqb any 0
   unfolding blank
   blank_end any h = rw (drop_of_length-le xs h) (and-true (eqb any 0))
-
-  pub rising-more : (n : ℕ) → i < length xs → n ≤ get_or xs i 0 → rising (get_or xs i 0) (drop (i + 1) xs) ≡ rising n (drop i xs)
-  unfolding rising
-  rising-more n h e = rw (left h, le-leb n (get_or xs i 0) e)
-
-  pub rising_stop : (n : ℕ) → i < length xs → get_or xs i 0 < n → rising n (drop i xs) ≡ false
-  unfolding rising
-  rising_stop n h e = rw (left h, lt-leb n (get_or xs i 0) e)
-
-  pub rising_end : (n : ℕ) → length xs ≤ i → rising n (drop i xs) ≡ true
-  unfolding rising
-  rising_end n h = rw (drop_of_length-le xs h)
 
 -- ---- the rows of a part
 
@@ -109,24 +96,16 @@ module _ (part : List ℕ) where
       row_end h = rw (row_none k h)
 
   -- in the order of a subdivision, by the keys of x and of entry k
-  module _ (p : Trip → Bool) (d : Subdivision) (by : ℕ) (q : by ≡ key_place d) (x : Trip) (k : ℕ) (i : x.id < word_end) (j : (trip_at part k).id < word_end) where
-    pub row_low : k < length part / entry_words → p (trip_at part k) ≡ true → key_by by (trip_at part k) ≤ key_by by x → after p (order d) x (drop k (rows part)) ≡ false
+  module _ (p : Trip → Bool) (d : Subdivision) (by : ℕ) (q : by ≡ key_place d) (x : Trip) (k : ℕ) (i : x.id < word_end) (j : (trip_at part k).id < word_end)
+      {last key : ℕ} (l : last ≡ key_by by x) (n : key ≡ key_by by (trip_at part k)) where
+    pub row_low : k < length part / entry_words → p (trip_at part k) ≡ true → key ≤ last → after p (order d) x (drop k (rows part)) ≡ false
     unfolding after
-    row_low h e l = rw (row_left k h, e, key_below d by q x (trip_at part k) i j, le-ltb (key_by by x) (key_by by (trip_at part k)) l)
+    row_low h e low = rw (row_left k h, e, key_below d by q x (trip_at part k) i j, ← l, ← n, le-ltb last key low)
 
-    pub row_more : k < length part / entry_words → p (trip_at part k) ≡ true → key_by by x < key_by by (trip_at part k)
+    pub row_more : k < length part / entry_words → p (trip_at part k) ≡ true → last < key
         → after p (order d) (trip_at part k) (drop (k + 1) (rows part)) ≡ after p (order d) x (drop k (rows part))
     unfolding after
-    row_more h e l = rw (row_left k h, e, key_below d by q x (trip_at part k) i j, lt-ltb (key_by by x) (key_by by (trip_at part k)) l)
-
-  module _ (f : Trip → ℕ) (k : ℕ) where
-    pub sum_more : k < length part / entry_words → sum_over f (drop k (rows part)) ≡ f (trip_at part k) + sum_over f (drop (k + 1) (rows part))
-    unfolding sum_over
-    sum_more h = rw (row_left k h)
-
-    pub sum_end : length part / entry_words ≤ k → sum_over f (drop k (rows part)) ≡ 0
-    unfolding sum_over
-    sum_end h = rw (row_none k h)
+    row_more h e up = rw (row_left k h, e, key_below d by q x (trip_at part k) i j, ← l, ← n, lt-ltb last key up)
 
 -- ---- numbers
 

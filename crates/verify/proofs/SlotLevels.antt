@@ -3,16 +3,16 @@ use mathlib.Core.Path.{◌≡◌, refl, subst}
 use mathlib.Core.Bool.{Bool, true, false}
 use mathlib.Core.List.{List, []}
 use Prim.Native.Nat.{ℕ, ◌+◌, ◌-◌, ◌*◌, ◌/◌, ◌^◌, ◌≤◌, ◌<◌}
-use native.Mathlib.Nat.{two-pow-succ, le_trans}
+use native.Mathlib.Nat.{two-pow-succ}
 use native.Mathlib.Numerals.{add-one}
 use native.Mathlib.Decide.{dec_lt}
 use native.Mathlib.Omega.{arith}
 use lib.Dec.{T}
 use lib.ListN.{length, get_or, drop, length-drop}
 use lib.Seq.{length-take-le}
-use lib.Pow.{pow_pos, pow_mono}
+use lib.Pow.{pow_pos}
 use Rattle.lists.proofs.Tests.{to_T, of_T}
-use Rattle.ruler.specs.Ruler.{Scale, deepest}
+use Rattle.ruler.specs.Ruler.{Scale}
 use Rattle.layout.specs.declared.Half.{Half}
 use Rattle.layout.specs.Words.{entry_words, partitions, partition_number, half_length}
 use Rattle.layout.proofs.Numbers.{number_lt}
@@ -36,14 +36,10 @@ slot_number_lem L j = omega arith
 pub slot_lt : (m L j : ℕ) → L ≤ m → j < 2 * 2 ^ L → first_slot L + j < 2 * partitions m
 slot_lt m L j h l = omega (arith, slot_number_lem L j, number_lt m L (j / 2) h (omega arith))
 
--- a level has some partitions, and not many; its slots end in the half
-pub few_across : (m L across : ℕ) → m ≤ deepest → L ≤ m → across ≡ 2 ^ L
-    → (1 ≤ across) × (across ≤ 2 ^ deepest) × (2 * (across - 1) + 2 * across ≤ 2 * partitions m)
-few_across m L across h l e =
-    let some = pow_pos L in
-    let few = pow_mono (le_trans l h) in
-    let last = slot_lt m L (2 * 2 ^ L - 1) l (omega arith) in
-    (omega arith, omega arith, omega arith)
+-- a level's last word is one of its half's
+pub level_in : (m L : ℕ) → L ≤ m → first_slot L + 2 * 2 ^ L < half_length m
+unfolding half_length
+level_in m L h = omega (arith, pow_pos L, slot_lt m L (2 * 2 ^ L - 1) h (omega (arith, pow_pos L)))
 
 -- the entries of a slot are as many as its two words say
 pub part_count : (dir arena : List ℕ) (k : ℕ) → PartThere dir arena k (k + 1)

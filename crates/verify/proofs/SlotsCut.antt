@@ -1,7 +1,7 @@
 -- One half's words: those that pass `half_ok` hold the trips that they are cut into, slot after slot; and words that hold the lists
 -- f 0 .. f (n - 1) pass, and are cut into these.
 use mathlib.Core.Path.{◌≡◌, refl, sym, ap, ap₂, ◌∙◌}
-use mathlib.Core.Bool.{true, ◌&&◌}
+use mathlib.Core.Bool.{Bool, true, ◌&&◌}
 use mathlib.Core.List.{List, [], ◌∷◌, ◌++◌}
 use Prim.Native.Nat.{ℕ, zero, suc, ◌+◌, ◌-◌, ◌*◌, ◌%◌, ◌≤◌, ◌<◌}
 use native.Mathlib.Omega.{arith}
@@ -10,8 +10,9 @@ use native.Mathlib.Decide.{le_ind}
 use lib.Dec.{T, leb, eqb, leb→le, le→leb, eqb→eq}
 use lib.ListN.{length, get_or, take, drop, replicate, length-drop, take-append-drop}
 use lib.Seq.{length-take-le, drop_at, take-add, ext_get_or}
+use Rattle.std.specs.Prelude.{IsTrue, ◌↔◌}
 use Rattle.lists.specs.Lists.{joined, up_to, padded}
-use Rattle.lists.proofs.Tests.{of_and, to_and, to_T}
+use Rattle.lists.proofs.Tests.{of_and, to_and, of_T, to_T}
 use Rattle.lists.proofs.Joined.{length_more}
 use Rattle.lists.proofs.Upto.{length-up_to, get_or_up_to}
 use Rattle.trip.specs.declared.Trip.{Trip}
@@ -23,6 +24,7 @@ use Rattle.store.specs.Halves.{total}
 use Rattle.store.specs.Parts.{part_words, PartThere}
 use Rattle.store.proofs.Halves.{total_at}
 use Rattle.verify.specs.Passing.{rising, blank}
+use Rattle.verify.proofs.Passing.{bool_ext}
 use Rattle.verify.specs.Local.{half_ok, slot_at, trips_of}
 
 -- ---- the tests on words, as facts
@@ -64,6 +66,15 @@ at_rising : (dir : List ℕ) (n : ℕ) → length dir ≡ n + 1 → ((k : ℕ) �
 unfolding rising
 at_rising [] n l h = tt
 at_rising (d ∷ ds) n l h = to_rising d ds (λ k i. rw add-one at (h k (omega arith)))
+
+-- the test of each word and the next is the test of all
+pub up_rises : (dir : List ℕ) (r : Bool) → 0 < length dir → (IsTrue r ↔ ((k : ℕ) → k + 1 < length dir → get_or dir k 0 ≤ get_or dir (k + 1) 0))
+    → r ≡ rising (get_or dir 0 0) (drop 1 dir)
+up_rises dir r some w =
+    let n = length dir - 1 in
+    bool_ext r (rising (get_or dir 0 0) (drop 1 dir))
+    (λ t. at_rising dir n (omega arith) (λ k h. w.0 (of_T r t) k (omega arith)))
+    (λ t. to_T (w.1 (λ k h. rising_at dir n (omega arith) t k (omega arith))))
 
 pub of_half : (dir arena : List ℕ) (n : ℕ) → length dir ≡ n + 1 → T (half_ok dir arena) → Cut dir arena n
 unfolding half_ok

@@ -2,7 +2,7 @@
 use mathlib.Core.Path.{◌≡◌, ◌∙◌}
 use mathlib.Core.Bool.{true, ◌&&◌}
 use mathlib.Core.List.{List}
-use Prim.Native.Nat.{ℕ, ◌+◌, ◌-◌, ◌*◌, ◌/◌, ◌%◌, ◌≤◌, ◌<◌}
+use Prim.Native.Nat.{ℕ, ◌-◌, ◌*◌, ◌/◌, ◌%◌, ◌≤◌, ◌<◌}
 use native.Mathlib.Nat.{sub-zero}
 use native.Mathlib.Omega.{arith}
 use lib.Dec.{leb, eqb, leb→le}
@@ -38,9 +38,9 @@ of_slots s o orig r repl e =
     (leb→le (total o) most_trips a.0, of_T _ b.0, of_T _ b.1)
 
 -- a half has a word
-pub some_words : (m : ℕ) (dir : List ℕ) → length dir ≡ half_length m → 0 < length dir
+pub some_words : (m : ℕ) → 0 < half_length m
 unfolding half_length
-some_words m dir e = omega arith
+some_words m = omega arith
 
 -- the entries of a half that passes fit its arena
 pub half_room : (dir arena : List ℕ) → half_ok dir arena ≡ true → entry_words * total dir ≤ length arena
@@ -50,12 +50,6 @@ half_room dir arena e =
     let a = of_and (eqb (get_or dir 0 0) 0) (rising (get_or dir 0 0) (drop 1 dir) && (leb u (length arena) && blank (drop u arena))) (to_T e) in
     let b = of_and (rising (get_or dir 0 0) (drop 1 dir)) (leb u (length arena) && blank (drop u arena)) a.1 in
     leb→le u (length arena) (of_and (leb u (length arena)) (blank (drop u arena)) b.1).0
-
--- the totals of two halves that pass are small numbers
-pub totals_fit : (o orig r repl : List ℕ) → halves_ok o orig r repl ≡ true → total o + total r ≤ length orig + length repl
-totals_fit o orig r repl e =
-    let w = of_halves o orig r repl e in
-    omega (arith, half_room o orig w.0, half_room r repl w.1)
 
 module _ (dir arena : List ℕ) (u : ℕ) (e : u ≡ entry_words * total dir) where
   pub all_rows : rows (take (u - 0) arena) ≡ trips_of dir arena

@@ -2,22 +2,24 @@
 #![tactic(auto)]
 
 ghost use Rattle.std.specs.Prelude.{◌≡◌, true, ◌<◌, length};
-ghost use Rattle.ruler.specs.Ruler.{Made, scale_of, scale};
+ghost use Rattle.ruler.specs.Ruler.{scale_of};
+ghost use Rattle.ruler.specs.Made.{scale};
 ghost use Rattle.layout.specs.Words.{half_length, directory_length};
 ghost use Rattle.layout.specs.Refusals.{is_index, check_outcome};
-ghost use Rattle.layout.specs.Calls.{index};
+ghost use Rattle.store.specs.WordsLent.{index_of};
 ghost use Rattle.verify.specs.Local.{halves_ok, all_slots_ok, trips_ok, locally};
 ghost use Rattle.verify.specs.Opening.{open_of, outcome_of};
 
 use counting::counts_to;
 use half::{half_ok, slots_ok};
 use layout::directory::half_length;
-use layout::{Half, Outcome, Refusal, refused};
+use layout::{Half, Refusal, Rejection};
 use origin::all_known;
-use ruler::{Judged, Numbers, Ruler};
-use store::counting::directory_length;
+use ruler::{Numbers, Ruler};
+use store::frame::ruler_for;
 use store::half::{entries_of, words_of};
 use store::ids::ids_differ;
+use store::words::Words;
 
 mod counting;
 mod half;
@@ -33,8 +35,8 @@ fn halves_ok(o: &[u32], originals: &[u32], r: &[u32], replicas: &[u32]) -> bool
 }
 
 // The tests over the slots of both halves.
+#[tactic(auto, using(crate::proofs::TestsPassed::some_words))]
 fn all_slots_ok(ruler: Ruler, o: &[u32], originals: &[u32], r: &[u32], replicas: &[u32]) -> bool
-    requires made { Made ruler }
     requires halves_long { (length o.now ≡ half_length (scale ruler).m) × (length r.now ≡ half_length (scale ruler).m) }
     requires halves_passed { halves_ok o.now originals.now r.now replicas.now ≡ true }
     ensures { result ≡ all_slots_ok (scale ruler) o.now originals.now r.now replicas.now }
@@ -46,8 +48,8 @@ fn all_slots_ok(ruler: Ruler, o: &[u32], originals: &[u32], r: &[u32], replicas:
 }
 
 // The tests over all trips.
+#[tactic(auto, using(crate::proofs::TestsPassed::some_words))]
 fn trips_ok(ruler: Ruler, o: &[u32], originals: &[u32], r: &[u32], replicas: &[u32]) -> bool
-    requires made { Made ruler }
     requires halves_long { (length o.now ≡ half_length (scale ruler).m) × (length r.now ≡ half_length (scale ruler).m) }
     requires halves_passed { halves_ok o.now originals.now r.now replicas.now ≡ true }
     requires slots_passed { all_slots_ok (scale ruler) o.now originals.now r.now replicas.now ≡ true }
@@ -63,73 +65,47 @@ fn trips_ok(ruler: Ruler, o: &[u32], originals: &[u32], r: &[u32], replicas: &[u
 }
 
 // All tests, each group where the one before it passes.
+#[tactic(auto, using(crate::proofs::TestsPassed::some_words), unfolding(crate::specs::Local::locally))]
 fn locally(ruler: Ruler, o: &[u32], originals: &[u32], r: &[u32], replicas: &[u32]) -> bool
-    requires made { Made ruler }
-    requires halves_long { (length o.now ≡ half_length (scale ruler).m) × (length r.now ≡ half_length (scale ruler).m) }
+    requires { (length o.now ≡ half_length (scale ruler).m) × (length r.now ≡ half_length (scale ruler).m) }
     ensures { result ≡ locally (scale ruler) o.now originals.now r.now replicas.now }
 {
-    if !halves_ok(o, originals, r, replicas) {
-        return false;
-    }
-    if !all_slots_ok(ruler, o, originals, r, replicas) {
-        return false;
-    }
-    trips_ok(ruler, o, originals, r, replicas)
+    halves_ok(o, originals, r, replicas)
+        && all_slots_ok(ruler, o, originals, r, replicas)
+        && trips_ok(ruler, o, originals, r, replicas)
 }
 
 // Whether directory and arenas are the index of some table that build accepts for this ruler and these lengths.
-pub fn is_index(ruler: Ruler, directory: &[u32], originals: &[u32], replicas: &[u32]) -> bool
-    requires made { Made ruler }
-    requires directory_len { length directory.now ≡ directory_length (scale ruler).m }
-    ensures { result ≡ is_index (scale ruler) (index directory.now originals.now replicas.now) }
+pub fn is_index(ruler: Ruler, words: Words) -> bool
+    requires { length words.directory.now ≡ directory_length (scale ruler).m }
+    ensures { result ≡ is_index (scale ruler) (index_of words.entry) }
 {
-    let n = directory.len();
-    let half = half_length(ruler.bottom());
-    locally(
-        ruler,
-        &directory[0..half],
-        originals,
-        &directory[half..n],
-        replicas,
-    )
+    let (o, r) = words.directory.split_at(half_length(ruler.bottom()));
+    locally(ruler, o, words.originals, r, words.replicas)
 }
 
-// What a call on an index finds first: an index, with the ruler made for it, or why there is none.
-#[derive(Clone, Copy)]
-pub enum Opened {
-    Index(Ruler),
-    Refused(Refusal),
-}
-
-// The tests 1, 3, 8 that each call on an index begins with.
-pub fn open(numbers: Numbers, directory: &[u32], originals: &[u32], replicas: &[u32]) -> Opened
-    ensures { result ≡ open_of numbers (index directory.now originals.now replicas.now) }
+// The tests 1, 3, 8 that each call on an index begins with: the ruler that was made for the index, or why there is none.
+pub fn open(numbers: Numbers, words: Words) -> Result<Ruler, Refusal>
+    ensures { result ≡ open_of numbers (index_of words.entry) }
 {
-    let Judged::Good(ruler) = Ruler::new(numbers) else {
-        return Opened::Refused(Refusal::RulerOutOfBounds);
-    };
-    if directory.len() != directory_length(ruler.bottom()) {
-        return Opened::Refused(Refusal::DirectoryLength);
+    let ruler = ruler_for(numbers, words.directory)?;
+    if !is_index(ruler, words) {
+        return Err(Refusal::NotAnIndex);
     }
-    if !is_index(ruler, directory, originals, replicas) {
-        return Opened::Refused(Refusal::NotAnIndex);
-    }
-    Opened::Index(ruler)
+    Ok(ruler)
 }
 
 // The outcome of the tests alone.
-pub fn outcome_of(opened: Opened) -> Outcome
+pub fn outcome_of(opened: Result<Ruler, Refusal>) -> Result<(), Rejection>
     ensures { result ≡ outcome_of opened }
 {
-    match opened {
-        Opened::Index(_) => Outcome::Accepted,
-        Opened::Refused(refusal) => refused(refusal, 0),
-    }
+    opened?;
+    Ok(())
 }
 
 // The check of an index: those tests and no more.
-pub fn check(numbers: Numbers, directory: &[u32], originals: &[u32], replicas: &[u32]) -> Outcome
-    ensures { result ≡ check_outcome (scale_of numbers) (index directory.now originals.now replicas.now) }
+pub fn check(numbers: Numbers, words: Words) -> Result<(), Rejection>
+    ensures { result ≡ check_outcome (scale_of numbers) (index_of words.entry) }
 {
-    outcome_of(open(numbers, directory, originals, replicas))
+    outcome_of(open(numbers, words))
 }

@@ -1,7 +1,7 @@
 // A replica's original: a search for it in the slot where it has to stand.
 ghost use Rattle.std.specs.Prelude.{◌≡◌, true, cond, ◌+◌, ◌/◌, leb, length};
 ghost use Rattle.lists.specs.Sifting.{InOrder};
-ghost use Rattle.ruler.specs.Ruler.{Made, scale};
+ghost use Rattle.ruler.specs.Made.{scale};
 ghost use Rattle.layout.specs.declared.Half.TheVariants.{Originals};
 ghost use Rattle.layout.specs.declared.Subdivision.TheVariants.{OIn};
 ghost use Rattle.layout.specs.Words.{entry_words, rows, order, half_length};
@@ -24,13 +24,11 @@ use trip::Trip;
 fn narrowed(there: u64, key: u64, later: usize, low: usize) -> usize
     ensures { result ≡ cond (leb there key) later low }
 {
-    if there <= key {
-        return later;
-    }
-    low
+    if there <= key { later } else { low }
 }
 
 // Whether the trip, whose key is known, is one of a part that is in the order of originals: by halving, so many steps as the part's length tells.
+// A halving of its own: `holds` of `store` goes over words in fixed steps, this one over keys of two words each.
 fn has_trip(part: &[u32], n: usize, t: Trip, key: u64) -> bool
     requires counted { n ≡ length part.now / entry_words }
     requires keyed { key ≡ key_by (key_place OIn) t }
@@ -42,6 +40,7 @@ fn has_trip(part: &[u32], n: usize, t: Trip, key: u64) -> bool
     }
     let mut low: usize = 0;
     let mut width = n;
+    // It halves.
     while 1 < width {
         let half = width / 2;
         let there = key_at(part, START_AT, low + half);
@@ -69,7 +68,6 @@ fn slot_has(dir: &[u32], originals: &[u32], k: usize, t: Trip, key: u64) -> bool
 
 // Whether the original of a trip stands in its slot.
 fn is_known(ruler: Ruler, dir: &[u32], originals: &[u32], t: Trip, key: u64) -> bool
-    requires made { Made ruler }
     requires dir_len { length dir.now ≡ half_length (scale ruler).m }
     requires originals_passed { (half_ok dir.now originals.now ≡ true) × (slots_ok (scale ruler) Originals dir.now originals.now ≡ true) }
     requires trip_fits { (fits (scale ruler) t ≡ true) × (key ≡ key_by (key_place OIn) t) }
@@ -80,21 +78,18 @@ fn is_known(ruler: Ruler, dir: &[u32], originals: &[u32], t: Trip, key: u64) -> 
 
 // Whether the original of each trip of a part stands in its slot. The trips are known to fit.
 pub fn all_known(ruler: Ruler, dir: &[u32], originals: &[u32], part: &[u32]) -> bool
-    requires made { Made ruler }
     requires dir_len { length dir.now ≡ half_length (scale ruler).m }
     requires originals_passed { (half_ok dir.now originals.now ≡ true) × (slots_ok (scale ruler) Originals dir.now originals.now ≡ true) }
     requires rows_fit { each (fits (scale ruler)) (rows part.now) ≡ true }
     ensures { result ≡ each (is_known (scale ruler) dir.now originals.now) (rows part.now) }
 {
     let n = part.len() / ENTRY_WORDS;
-    let mut k: usize = 0;
-    while k < n {
+    for k in 0..n {
         let t = trip_at(part, k);
         let key = key_at(part, START_AT, k);
         if !is_known(ruler, dir, originals, t, key) {
             return false;
         }
-        k += 1;
     }
     true
 }

@@ -1,6 +1,7 @@
 // One trip in one partition: whether it may stand there.
 ghost use Rattle.std.specs.Prelude.{◌≡◌, ◌^◌, ◌<◌, ◌≤◌};
-ghost use Rattle.ruler.specs.Ruler.{deepest, Made, scale};
+ghost use Rattle.ruler.specs.Ruler.{deepest};
+ghost use Rattle.ruler.specs.Made.{scale};
 ghost use Rattle.layout.specs.Refusals.{fits};
 ghost use Rattle.verify.specs.Frames.{has_cell, AtLevel, starts_of, ends_of, frame_of, FrameAt, stands_in};
 
@@ -8,7 +9,7 @@ use layout::Half;
 use ruler::{Cell, Ruler, power};
 use trip::Trip;
 
-// Some cells of one level: from one on, up to another that is not of them.
+// Some cells of one level: from one on, up to another that is not of them. As `Span` of plan is over times; cells have no order of their own.
 #[derive(Clone, Copy)]
 pub struct Cells {
     from: Cell,
@@ -16,16 +17,12 @@ pub struct Cells {
 }
 
 impl Cells {
+    #[tactic(auto, unfolding(crate::specs::Frames::has_cell))]
     fn has(self, cell: Cell) -> bool
         requires { AtLevel cell.0 self }
         ensures { result ≡ has_cell self cell }
     {
-        let from = self.from;
-        let until = self.until;
-        if !from.no_later(cell) {
-            return false;
-        }
-        !until.no_later(cell)
+        self.from.no_later(cell) && !self.until.no_later(cell)
     }
 }
 
@@ -101,27 +98,18 @@ pub fn frame_of(m: u32, half: Half, aft: bool, partition: Cell) -> Frame
 
 // Whether the trip passes tests 4, 5 and 16.
 pub fn fits(ruler: Ruler, t: Trip) -> bool
-    requires { Made ruler }
     ensures { result ≡ fits (scale ruler) t }
 {
-    let start = t.start;
-    let end = t.end;
-    ruler.spans(start, end) & !t.never_runs()
+    ruler.spans(t.start, t.end) & !t.never_runs()
 }
 
 // Whether the trip may stand in a slot of this frame.
+#[tactic(auto, unfolding(crate::specs::Frames::stands_in))]
 pub fn stands(ruler: Ruler, frame: Frame, t: Trip) -> bool
-    requires made { Made ruler }
-    requires frame_at { FrameAt (scale ruler).m frame }
+    requires { FrameAt (scale ruler).m frame }
     ensures { result ≡ stands_in (scale ruler) frame t }
 {
-    if !fits(ruler, t) {
-        return false;
-    }
-    let starts = frame.starts;
-    let ends = frame.ends;
-    if !starts.has(ruler.bottom_cell(t.start)) {
-        return false;
-    }
-    ends.has(ruler.bottom_cell(t.end))
+    fits(ruler, t)
+        && frame.starts.has(ruler.bottom_cell(t.start))
+        && frame.ends.has(ruler.bottom_cell(t.end))
 }

@@ -57,11 +57,3 @@ pub slot-sum : (m L i : ℕ) (d : Subdivision) {from at : ℕ} {h : Half} {aft :
     → number ≡ slot_number L i aft → at ≡ number → from + at ≡ slot_at m L i d
 unfolding slot_at
 slot-sum m L i d p q r n e f = cc
-
--- 3 and what is past it name the last subdivision
-pub numbered_last : (k : ℕ) → 3 ≤ k → subdivision_numbered k ≡ RAft
-unfolding subdivision_numbered
-numbered_last zero l = absurd (omega arith)
-numbered_last (suc zero) l = absurd (omega arith)
-numbered_last (suc (suc zero)) l = absurd (omega arith)
-numbered_last (suc (suc (suc k))) l = refl

@@ -8,21 +8,21 @@ use layout::Subdivision;
 use ruler::power;
 
 // The entries of n slots, each the second after the one before it: the "in" slots of a level, or its "aft" slots.
+#[tactic(auto, unfolding(crate::specs::Directory::every_second))]
 fn every_second(directory: &[u32], from: usize, n: usize) -> u32
     requires { Rising directory.now from (2 * n) }
     ensures { result ≡ every_second directory.now from n }
 {
     let mut total: u32 = 0;
-    let mut i: usize = 0;
-    while i < n {
+    for i in 0..n {
         let at = from + 2 * i;
         total += directory[at + 1] - directory[at];
-        i += 1;
     }
     total
 }
 
 // The entries of one subdivision of a level.
+#[tactic(auto, using(crate::proofs::SlotWords::level_rising), unfolding(crate::specs::Directory::count_of, layout::specs::Stored::partitions_at))]
 fn level_count(directory: &[u32], m: u32, level: u32, d: Subdivision) -> u32
     requires { Halves m directory.now × (level ≤ m) }
     ensures { result ≡ count_of directory.now m level d }
@@ -31,6 +31,7 @@ fn level_count(directory: &[u32], m: u32, level: u32, d: Subdivision) -> u32
 }
 
 // The entries of the four subdivisions of a level: none of a level above m.
+#[tactic(auto, unfolding(crate::specs::Directory::row_of, crate::specs::Directory::count_of))]
 fn level_row(directory: &[u32], m: u32, level: u32) -> [u32; SUBDIVISIONS]
     requires { Halves m directory.now }
     ensures { result ≡ row_of directory.now m level }
@@ -51,11 +52,8 @@ pub fn level_rows(directory: &[u32], m: u32) -> [[u32; SUBDIVISIONS]; LEVELS]
     ensures { result ≡ rows_of directory.now m }
 {
     let mut rows = [[0u32; SUBDIVISIONS]; LEVELS];
-    let mut level: usize = 0;
-    while level < LEVELS {
-        let row = level_row(directory, m, level as u32);
-        rows[level] = row;
-        level += 1;
+    for level in 0..LEVELS {
+        rows[level] = level_row(directory, m, level as u32);
     }
     rows
 }

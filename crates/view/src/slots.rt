@@ -10,6 +10,8 @@ use ruler::Cell;
 use store::places::slot_number;
 
 // The subdivision with a number of 0 to 3.
+// Any number is taken, as the definition does: the call refuses those above 3 first.
+#[tactic(auto, unfolding(layout::specs::Answers::subdivision_numbered))]
 pub fn numbered(number: u32) -> Subdivision
     ensures { result ≡ subdivision_numbered number }
 {
@@ -21,29 +23,25 @@ pub fn numbered(number: u32) -> Subdivision
     }
 }
 
+#[tactic(auto, unfolding(layout::specs::Answers::half_of))]
 pub fn half_of(d: Subdivision) -> Half
     ensures { result ≡ half_of d }
 {
     match d {
-        Subdivision::OIn => Half::Originals,
-        Subdivision::OAft => Half::Originals,
-        Subdivision::RIn => Half::Replicas,
-        Subdivision::RAft => Half::Replicas,
+        Subdivision::OIn | Subdivision::OAft => Half::Originals,
+        Subdivision::RIn | Subdivision::RAft => Half::Replicas,
     }
 }
 
+#[tactic(auto, unfolding(layout::specs::Answers::is_aft))]
 fn is_aft(d: Subdivision) -> bool
     ensures { result ≡ is_aft d }
 {
-    match d {
-        Subdivision::OIn => false,
-        Subdivision::OAft => true,
-        Subdivision::RIn => false,
-        Subdivision::RAft => true,
-    }
+    matches!(d, Subdivision::OAft | Subdivision::RAft)
 }
 
 // The words of the directory before those of a half.
+#[tactic(auto, unfolding(crate::specs::Directory::half_from))]
 fn half_from(m: u32, half: Half) -> usize
     requires { m ≤ deepest }
     ensures { result ≡ half_from m half }

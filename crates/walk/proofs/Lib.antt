@@ -3,7 +3,7 @@ pub mod Written
 pub mod PartTurns
 pub mod LevelSlots
 pub mod Searched
-pub mod MatchesJoined
+pub mod Visits
 pub mod LooksMeet
 pub mod StretchWords
 pub mod Levels

@@ -2,7 +2,7 @@
 use mathlib.Core.Path.{◌≡◌, refl, sym, ap, ◌∙◌}
 use mathlib.Core.Bool.{Bool, true, false, cond}
 use mathlib.Core.List.{List, [], ◌++◌, append-nil, append_assoc}
-use Prim.Native.Nat.{ℕ, zero, suc, ◌+◌, ◌-◌, ◌*◌, ◌≤◌, ◌<◌}
+use Prim.Native.Nat.{ℕ, zero, suc, ◌-◌, ◌*◌, ◌≤◌, ◌<◌}
 use native.Mathlib.Omega.{arith}
 use lib.Dec.{eqb}
 use lib.ListN.{length, get_or}
@@ -22,10 +22,9 @@ use Rattle.plan.specs.Plan.{stretch}
 use Rattle.plan.specs.Looks.{front_end, front_of, back_of, looks, original_looks, look_at}
 use Rattle.plan.proofs.SoughtMatches.{sought_outside}
 use Rattle.store.specs.Parts.{part_words, PartThere}
-use Rattle.walk.specs.Part.{Listed, stretch_matches}
+use Rattle.walk.specs.Part.{stretch_matches}
 use Rattle.walk.specs.Levels.{look_words, part_of, LookThere, look_matches, level_look, level_matches, LevelThere, looks_from, looks_to}
 use Rattle.walk.proofs.LevelSlots.{InTurn, in_slot, aft_slot, after_in, SlotsThere, AllThere, four_matches}
-use Rattle.walk.proofs.MatchesJoined.{row_room, row_fits}
 use Rattle.walk.proofs.Searched.{starts_rise, ends_rise, cut_matches}
 
 -- ---- a look
@@ -195,16 +194,3 @@ module _ {d o r : List ℕ} {s : Stretches} (w : LevelThere d o r s) where
 
   pub next-there : {k to : ℕ} → k < to → to ≡ looks_to s d → LookThere d o r (look_at s k)
   next-there {k} h e = w.there k (omega (arith, (from_to s d).1))
-
-  -- the next look has room where the level has, in a list too into which those before it were listed
-  module _ (t : Bool → Trip → Bool) {k to : ℕ} (h : k < to) (e : to ≡ looks_to s d) where
-    all_room : {room : ℕ} → length (level_matches t d o r s) ≤ room → length (joined (level_look t d o r s) to) ≤ room
-    all_room g = rw (e, none_after t w) g
-
-    pub look-room : {room : ℕ} → length (level_matches t d o r s) ≤ room → length (joined (level_look t d o r s) k ++ level_look t d o r s k) ≤ room
-    look-room g = row_room (level_look t d o r s) k to h (all_room g)
-
-    pub look-fits : {count : ℕ} {old mid : List ℕ} → Listed (joined (level_look t d o r s) k) old mid count
-        → length (level_matches t d o r s) ≤ length old
-        → count + length (level_look t d o r s k) ≤ length mid
-    look-fits one g = row_fits (level_look t d o r s) to one h (all_room g)

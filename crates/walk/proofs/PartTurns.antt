@@ -4,7 +4,7 @@ use mathlib.Core.Bool.{Bool, true, false, cond}
 use mathlib.Core.List.{List, [], ◌∷◌}
 use Prim.Native.Nat.{ℕ, ◌+◌, ◌/◌, ◌≤◌, ◌<◌}
 use native.Mathlib.Omega.{arith}
-use lib.ListN.{length, set, length-append, length-set}
+use lib.ListN.{length, set, length-append}
 use Rattle.lists.specs.Lists.{keep, up_to}
 use Rattle.lists.proofs.Kept.{kept, kept_hit, kept_miss, kept_le}
 use Rattle.trip.specs.declared.Trip.{Trip}
@@ -12,11 +12,6 @@ use Rattle.layout.specs.Words.{entry_words, trip_at, rows}
 use Rattle.store.specs.Entries.{ids}
 use Rattle.walk.specs.Part.{Listed}
 use Rattle.walk.proofs.Written.{ids-append, ids-length, over-put, listed-length}
-
--- an id put where a test passes leaves the list as long
-pub put-length : (b : Bool) (out : List ℕ) (at v : ℕ) → length (cond b (set out at v) out) ≡ length out
-put-length true out at v = length-set out at v
-put-length false out at v = refl
 
 module _ (t : Trip → Bool) (l : List ℕ) where
   -- the matches among the first i entries, and among all

@@ -1,4 +1,4 @@
--- What a search by halving finds in a slot, what is left of it, and that the entries which it cuts off do not match.
+-- That a search in a slot finds what is earlier, what is left of it, and that the entries which it cuts off do not match.
 use mathlib.Core.Path.{◌≡◌, refl, sym, ap, ◌∙◌}
 use mathlib.Core.Bool.{Bool, true, false, cond, true≢false, ◌&&◌, ◌||◌, and-false}
 use mathlib.Core.List.{List, [], ◌∷◌, ◌++◌, append-nil}
@@ -6,11 +6,11 @@ use Prim.Native.Nat.{ℕ, suc, ◌+◌, ◌-◌, ◌*◌, ◌/◌, ◌%◌, ◌�
 use native.Mathlib.Omega.{arith}
 use lib.Dec.{leb, ltb, eqb}
 use lib.ListN.{length, get_or, take, drop, length-drop}
+use Rattle.std.proofs.Common.{max}
 use lib.Seq.{get_or-take}
 use borrow.Author.Tests.{lt-ltb, ltb-true, ltb-false, eqb-true, lt-leb, le-leb}
 use Rattle.lists.specs.Lists.{keep}
 use Rattle.lists.proofs.Kept.{keep_append, keep-none, keep-after}
-use Rattle.lists.proofs.Halving.{Between, Falls, between_start, between_up, between_down}
 use Rattle.ruler.specs.declared.Time.{Time}
 use Rattle.ruler.specs.Ruler.{no_later}
 use Rattle.trip.specs.declared.Trip.{Trip}
@@ -19,11 +19,13 @@ use Rattle.layout.specs.Stored.{subdivision_of}
 use Rattle.layout.specs.Words.{entry_words, trip_at, words, rows, by_start, by_end, order}
 use Rattle.layout.proofs.Rows.{length-rows, get_or_rows, trip_at-drop, whole, whole-rest, rows_words, words-rows}
 use Rattle.layout.proofs.RowParts.{rows_split, rows_take, front_length}
+use Rattle.plan.specs.declared.bounds.Span.{Span}
 use Rattle.plan.specs.declared.bounds.Bounds.{Bounds}
 use Rattle.plan.specs.declared.looks.Order.{Order}
 use Rattle.plan.specs.declared.looks.Order.TheVariants.{ByStart, ByEnd, Other}
 use Rattle.plan.specs.Bounds.{has, inside}
-use Rattle.walk.specs.Cut.{time_of, span_of, earlier_than, timely, timely_of, few, cut_of, Rises, Parted}
+use Rattle.store.specs.Ordered.{InFront, Parted}
+use Rattle.walk.specs.Cut.{start_of, end_of, earlier_than, timely, timely_of, few, cut_of, Rises, Ordered}
 use Rattle.walk.proofs.LevelSlots.{InTurn}
 
 -- ---- a slot in its order never falls in time
@@ -37,55 +39,23 @@ no_later_lem a b c = go (ltb a b) refl (eqb a b) refl
     go false l false m e = absurd (true≢false (sym e))
 
 module _ (part : List ℕ) where
-  pub starts_rise : (aft : Bool) → InTurn Originals aft part → Rises false part
+  pub starts_rise : (aft : Bool) → InTurn Originals aft part → Rises start_of part
   unfolding order by_start subdivision_of
   starts_rise true w i j h k = no_later_lem _ _ _ (w i j h k)
   starts_rise false w i j h k = no_later_lem _ _ _ (w i j h k)
 
-  pub ends_rise : InTurn Replicas false part → Rises true part
+  pub ends_rise : InTurn Replicas false part → Rises end_of part
   unfolding order by_end subdivision_of
   ends_rise w i j h k = no_later_lem _ _ _ (w i j h k)
 
 -- ---- the search
 
--- the entries before low are earlier than the limit, and those from high on are not
-abbrev pub Meeting : (ends : Bool) → (limit : Time) → (part : List ℕ) → (low high : ℕ) → Type 0
-Meeting ends limit part low high = Between (trip_at part 0) (earlier_than ends limit) (rows part) low high
-
-module _ (ends : Bool) (limit : Time) (part : List ℕ) (rises : Rises ends part) where
-  row : (k : ℕ) → k < length part / entry_words → get_or (rows part) k (trip_at part 0) ≡ trip_at part k
-  row k h = get_or_rows part k (trip_at part 0) h
-
-  falls : Falls (trip_at part 0) (earlier_than ends limit) (rows part)
-  falls i j h g e =
-      let n = length-rows part in
-      let later = ltb-true (time_of ends (trip_at part j)).0 limit.0 (rw (row j (omega arith)) at e) in
-      rw (row i (omega arith)) (lt-ltb (time_of ends (trip_at part i)).0 limit.0 (omega (arith, rises i j h (omega arith), later)))
-
-  pub search_start : Meeting ends limit part 0 (length part / entry_words)
-  search_start = rw length-rows at (between_start (trip_at part 0) (earlier_than ends limit) (rows part))
-
-  module _ (low high mid : ℕ) (w : Meeting ends limit part low high) (a : low ≤ mid) (b : mid < high) where
-    here_row : get_or (rows part) mid (trip_at part 0) ≡ trip_at part mid
-    here_row = row mid (omega (arith, w.inside, length-rows part))
-
-    pub search_up : earlier_than ends limit (trip_at part mid) ≡ true → Meeting ends limit part (mid + 1) high
-    search_up e = between_up (trip_at part 0) (earlier_than ends limit) (rows part) falls low high mid w a b (rw here_row e)
-
-    pub search_down : earlier_than ends limit (trip_at part mid) ≡ false → Meeting ends limit part low mid
-    search_down e = between_down (trip_at part 0) (earlier_than ends limit) (rows part) falls low high mid w a b (rw here_row e)
-
-  pub search_inside : (low high : ℕ) → Meeting ends limit part low high → high ≤ length part / entry_words
-  search_inside low high w = omega (arith, w.inside, length-rows part)
-
-  pub search_end : (low high : ℕ) → high ≤ low → Meeting ends limit part low high → Parted (earlier_than ends limit) part low
-  search_end low high h w =
-      let n = length-rows part in
-      record {
-        inside = omega (arith, w.meet, w.inside);
-        front = λ j l. rw (← row j (omega (arith, w.meet, w.inside))) (w.low j l);
-        rest = λ j l g. rw (← row j g) (w.high j (omega arith) (omega arith));
-      }
+-- what is earlier than a limit stands in front
+module _ (time : Trip → Time) (limit : Time) (part : List ℕ) (rises : Rises time part) where
+  pub early_front : InFront (earlier_than time limit) part
+  early_front i j h g e =
+      let later = ltb-true (time (trip_at part j)).0 limit.0 e in
+      lt-ltb (time (trip_at part i)).0 limit.0 (omega (arith, rises i j h g, later))
 
 -- ---- what a test keeps of a list
 
@@ -173,54 +143,61 @@ module _ (t : Trip → Bool) (part : List ℕ) (lo to : ℕ) (a : lo ≤ to) (b 
         ∙ sym (words-rows middle (ap (λ (n : ℕ). n % entry_words) middle_length ∙ whole-rest (to - lo)))
         ∙ ap words (sym all_pass ∙ ap (λ (n : ℕ). keep t (rows (take n later))) (sym size) ∙ cut_keeps)
 
--- a time before the span, or not before its end, is not one of the span's; one between is; and an entry that is not timely does not match
-module _ (ends : Bool) (bounds : Bounds) (u : Trip) where
-  too_early : earlier_than ends (span_of ends bounds).from u ≡ true → timely ends bounds u ≡ false
+-- a time before the span, or not before its end, is not one of the span's; and one between is
+module _ (time : Trip → Time) (span : Span) (u : Trip) where
+  too_early : earlier_than time span.from u ≡ true → timely time span u ≡ false
   unfolding timely has
   too_early e =
-      let h = ltb-true (time_of ends u).0 (span_of ends bounds).from.0 e in
-      rw (lt-leb (span_of ends bounds).from.0 (time_of ends u).0 h) refl
+      let h = ltb-true (time u).0 span.from.0 e in
+      rw (lt-leb span.from.0 (time u).0 h) refl
 
-  too_late : earlier_than ends (span_of ends bounds).until u ≡ false → timely ends bounds u ≡ false
+  too_late : earlier_than time span.until u ≡ false → timely time span u ≡ false
   unfolding timely has
-  too_late e = rw e (and-false (no_later (span_of ends bounds).from (time_of ends u)))
+  too_late e = rw e (and-false (no_later span.from (time u)))
 
-  in_time : earlier_than ends (span_of ends bounds).from u ≡ false → earlier_than ends (span_of ends bounds).until u ≡ true
-      → timely ends bounds u ≡ true
+  in_time : earlier_than time span.from u ≡ false → earlier_than time span.until u ≡ true → timely time span u ≡ true
   unfolding timely has
   in_time e l =
-      let h = ltb-false (time_of ends u).0 (span_of ends bounds).from.0 e in
-      rw (le-leb (span_of ends bounds).from.0 (time_of ends u).0 h, l) refl
-
-  outside : timely ends bounds u ≡ false → inside bounds u ≡ false
-  unfolding timely inside
-  outside = go ends
-    where
-      go : (b : Bool) → has (span_of b bounds) (time_of b u) ≡ false → has bounds.start u.start && has bounds.end u.end ≡ false
-      go true e = rw e (and-false (has bounds.start u.start))
-      go false e = rw e refl
+      let h = ltb-false (time u).0 span.from.0 e in
+      rw (le-leb span.from.0 (time u).0 h, l) refl
 
 -- ---- the two searches together
 
-pub within-is : (ends : Bool) (bounds : Bounds) (part : List ℕ) (lo hi to : ℕ)
-    → Parted (earlier_than ends (span_of ends bounds).from) part lo → Parted (earlier_than ends (span_of ends bounds).until) part hi
-    → lo ≤ to → hi ≤ to → to ≤ length part / entry_words → ((j : ℕ) → lo ≤ j → j < to → j < hi)
-    → take (entry_words * to - entry_words * lo) (drop (entry_words * lo) part) ≡ words (keep (timely ends bounds) (rows part))
-within-is ends bounds part lo hi to p q a b c d =
-    cut_is (timely ends bounds) part lo to a c (λ j h. too_early ends bounds (trip_at part j) (p.front j h))
-    (λ j h k. too_late ends bounds (trip_at part j) (q.rest j (omega arith) k))
-    (λ j h k. in_time ends bounds (trip_at part j) (p.rest j h (omega arith)) (q.front j (d j h k)))
+pub within-is : (time : Trip → Time) (span : Span) (part : List ℕ) (lo hi to : ℕ)
+    → Parted (earlier_than time span.from) part lo → Parted (earlier_than time span.until) part hi → to ≡ max hi lo
+    → take (entry_words * to - entry_words * lo) (drop (entry_words * lo) part) ≡ words (keep (timely time span) (rows part))
+within-is time span part lo hi to p q e =
+    cut_is (timely time span) part lo to (omega arith) (omega (arith, p.inside, q.inside))
+    (λ j h. too_early time span (trip_at part j) (p.front j h)) (λ j h k. too_late time span (trip_at part j) (q.rest j (omega arith) k))
+    (λ j h k. in_time time span (trip_at part j) (p.rest j h (omega (arith, q.inside))) (q.front j (omega arith)))
+
+-- a part in the order of a time
+pub ordered_by_start : (o : Order) (part : List ℕ) → o ≡ ByStart → Ordered o part → Rises start_of part
+ordered_by_start o part e w = rw e at w
+
+pub ordered_by_end : (o : Order) (part : List ℕ) → o ≡ ByEnd → Ordered o part → Rises end_of part
+ordered_by_end o part e w = rw e at w
+
+-- an entry whose start, or whose end, is not of its span is not within the bounds
+start_outside : (b : Bounds) (u : Trip) → timely start_of b.start u ≡ false → inside b u ≡ false
+unfolding timely inside
+start_outside b u e = rw e refl
+
+end_outside : (b : Bounds) (u : Trip) → timely end_of b.end u ≡ false → inside b u ≡ false
+unfolding timely inside
+end_outside b u e = rw e (and-false (has b.start u.start))
 
 -- what is left of a slot has all that passes a test which nothing outside the bounds passes
 module _ (t : Trip → Bool) (bounds : Bounds) (part : List ℕ) (bounded : (u : Trip) → inside bounds u ≡ false → t u ≡ false) where
-  timely-matches : (ends : Bool) → keep t (rows (words (keep (timely ends bounds) (rows part)))) ≡ keep t (rows part)
-  timely-matches ends =
-      ap (keep t) (rows_words (keep (timely ends bounds) (rows part)))
-      ∙ keep-after t (timely ends bounds) (λ u e. bounded u (outside ends bounds u e)) (rows part)
+  timely-matches : (time : Trip → Time) (span : Span) → ((u : Trip) → timely time span u ≡ false → inside bounds u ≡ false)
+      → keep t (rows (words (keep (timely time span) (rows part)))) ≡ keep t (rows part)
+  timely-matches time span outside =
+      ap (keep t) (rows_words (keep (timely time span) (rows part)))
+      ∙ keep-after t (timely time span) (λ u e. bounded u (outside u e)) (rows part)
 
   order-matches : (o : Order) → keep t (rows (timely_of o bounds part)) ≡ keep t (rows part)
-  order-matches ByStart = timely-matches false
-  order-matches ByEnd = timely-matches true
+  order-matches ByStart = timely-matches start_of bounds.start (start_outside bounds)
+  order-matches ByEnd = timely-matches end_of bounds.end (end_outside bounds)
   order-matches Other = refl
 
   pub cut_matches : (o : Order) → keep t (rows (cut_of o bounds part)) ≡ keep t (rows part)

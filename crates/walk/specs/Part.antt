@@ -1,5 +1,5 @@
 -- The trips of a stretch that match, and ids written to the front of a list.
-use Rattle.std.specs.Prelude.{◌≡◌, Bool, List, ℕ, length}
+use Rattle.std.specs.Prelude.{◌≡◌, Bool, List, ◌++◌, ℕ, ◌+◌, length, take, drop}
 use Rattle.lists.specs.Lists.{keep, over}
 use Rattle.trip.specs.declared.Trip.{Trip}
 use Rattle.layout.specs.Words.{rows}
@@ -11,6 +11,11 @@ use Rattle.plan.specs.declared.stretches.Stretch.{Stretch}
 pub record Listed (ts : List Trip) (old new : List ℕ) (r : ℕ) : Type 0 where
   pub counted : r ≡ length ts
   pub written : new ≡ over (ids ts) old
+
+-- the same from the word n on: the words before it stay, and r is the word after the ids
+pub record ListedFrom (n : ℕ) (ts : List Trip) (old new : List ℕ) (r : ℕ) : Type 0 where
+  pub counted : r ≡ n + length ts
+  pub written : new ≡ take n old ++ over (ids ts) (drop n old)
 
 -- the trips of a stretch that match. A test is told whether the trips of the stretch are sure to be within the bounds.
 unfoldable pub stretch_matches : (Bool → Trip → Bool) → (directory arena : List ℕ) → Stretch → List Trip

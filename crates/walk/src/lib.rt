@@ -1,8 +1,9 @@
-// The walk of a plan over the words of an index: level by level, the parts of the arenas that its looks see. A use of the walk is a leaf over one
-// part and the loop over levels and looks: `count` and `list`.
+// The walk of a plan over the words of an index: level by level, the parts of the arenas that its looks see. What is done with them is a visitor's:
+// `count` and `list` have one each.
 #![tactic(auto)]
 
 pub mod count;
 mod cut;
 pub mod list;
 mod look;
+pub mod visit;

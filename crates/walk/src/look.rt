@@ -1,62 +1,58 @@
-// What a look sees: a part of one of the two arenas, without the entries that are known not to match; and which looks of a level see anything.
-ghost use Rattle.std.specs.Prelude.{◌≡◌, ◌<◌, length};
-ghost use Rattle.walk.specs.Levels.{LookThere, part_of, looks_from, looks_to};
+// What a look sees: a part of one of the two arenas, without the entries that are known not to match.
+ghost use Rattle.std.specs.Prelude.{◌≡◌, ◌<◌, not, eqb, length, get_or};
+ghost use Rattle.walk.specs.Levels.{looks_from, looks_to};
+ghost use Rattle.walk.specs.Seen.{LookSeen, part_seen};
 
 use crate::cut::cut;
 use plan::bounds::Bounds;
 use plan::looks::{LOOKS, Look, ORIGINAL_LOOKS};
 use plan::stretches::Stretches;
 use store::part::{arena_of, part_there};
+use store::words::Words;
 
-// The looks of a level from one on, up to another. Where a half has no entries from the first look's word to the last one's, none of its looks
-// has, and they are passed over by this one comparison.
-pub fn looks_from(level: Stretches, directory: &[u32]) -> usize
-    requires { (level.first.from < length directory.now) × (level.last.to < length directory.now) }
-    ensures { result ≡ looks_from level directory.now }
+// Whether there are entries from one word of the directory up to another.
+fn has_entries(words: Words, from: usize, to: usize) -> bool
+    requires { (from < length words.directory.now) × (to < length words.directory.now) }
+    ensures { result ≡ not (eqb (get_or words.entry.directory.now from 0) (get_or words.entry.directory.now to 0)) }
 {
-    let first = level.first;
-    let last = level.last;
-    let from = first.from;
-    let to = last.to;
-    if directory[from] == directory[to] {
-        return ORIGINAL_LOOKS;
-    }
-    0
+    words.directory[from] != words.directory[to]
 }
 
-pub fn looks_to(level: Stretches, directory: &[u32]) -> usize
-    requires { (level.replicas.from < length directory.now) × (level.replicas.to < length directory.now) }
-    ensures { result ≡ looks_to level directory.now }
+// The looks of a level from one on, up to another. Where a half has no entries from the first look's word to the last one's, none of its
+// looks has, and they are passed over by this one comparison. A look is made where it is looked at: lists of them need more steps and stack.
+#[tactic(auto, unfolding(crate::specs::Levels::looks_from))]
+pub fn looks_from(words: Words, level: Stretches) -> usize
+    requires { (level.first.from < length words.directory.now) × (level.last.to < length words.directory.now) }
+    ensures { result ≡ looks_from level words.entry.directory.now }
 {
-    let replicas = level.replicas;
-    let from = replicas.from;
-    let to = replicas.to;
-    if directory[from] == directory[to] {
-        return ORIGINAL_LOOKS;
+    if has_entries(words, level.first.from, level.last.to) {
+        return 0;
     }
-    LOOKS
+    ORIGINAL_LOOKS
+}
+
+#[tactic(auto, unfolding(crate::specs::Levels::looks_to))]
+pub fn looks_to(words: Words, level: Stretches) -> usize
+    requires { (level.replicas.from < length words.directory.now) × (level.replicas.to < length words.directory.now) }
+    ensures { result ≡ looks_to level words.entry.directory.now }
+{
+    if has_entries(words, level.replicas.from, level.replicas.to) {
+        return LOOKS;
+    }
+    ORIGINAL_LOOKS
 }
 
 // The entries of a look. Where not all are known to match, and they are in an order of times, they are cut to those whose time can.
-pub fn part_of<'a>(
-    look: Look,
-    bounds: Bounds,
-    directory: &[u32],
-    originals: &'a [u32],
-    replicas: &'a [u32],
-) -> &'a [u32]
-    requires { LookThere directory.now originals.now replicas.now look }
-    ensures { result.now ≡ part_of bounds directory.now originals.now replicas.now look }
+#[tactic(auto, unfolding(crate::specs::Levels::part_of, crate::specs::Levels::look_words))]
+pub fn part_of<'a>(words: Words<'a>, look: Look, bounds: Bounds) -> &'a [u32]
+    requires { LookSeen words look }
+    ensures { result.now ≡ part_seen bounds words.entry look }
 {
     let stretch = look.stretch;
-    let from = stretch.from;
-    let to = stretch.to;
-    let half = look.half;
-    let order = look.order;
-    let arena = arena_of(half, originals, replicas);
-    let part = part_there(directory, arena, from, to);
+    let arena = arena_of(look.half, words.originals, words.replicas);
+    let part = part_there(words.directory, arena, stretch.from, stretch.to);
     if stretch.sure {
         return part;
     }
-    cut(order, bounds, part)
+    cut(look.order, bounds, part)
 }

@@ -9,7 +9,7 @@ pub returns-then-trips-room : goal.returns-then-trips-room
 returns-then-trips-room c = sym (has_room _ _ (omega arith))
 
 pub returns-then-room-count : goal.returns-then-room-count
-returns-then-room-count c = rw (← c.count_levels-count.ensures) (sym (no_room_lem _ _ c.if-room-count.true))
+returns-then-room-count c = rw (c.with_detail.ensures, ← c.count_levels-count.ensures) (sym (no_room_lem _ _ c.if-room-count.true))
 
 pub returns : goal.returns
 returns c = sym (has_room _ _ (omega (arith, c.count_levels-count.ensures)))

@@ -1,128 +1,51 @@
 -- A refusal leaves the words; else each half is laid out in its part of the directory.
-use mathlib.Core.Path.{◌≡◌, refl, sym, ap, ap₂, ◌∙◌}
-use mathlib.Core.Bool.{true}
+use Rattle.std.proofs.lemmas.Result.{err_from_is_err_and}
+use mathlib.Core.Path.{◌≡◌, ap, ap₂, ◌∙◌}
 use mathlib.Core.List.{◌++◌}
-use Prim.Native.Nat.{◌+◌, ◌%◌}
 use lib.ListN.{length}
-use Rattle.ruler.specs.Ruler.{scale}
-use Rattle.layout.specs.Words.{entry_words, rows, half_length}
-use Rattle.layout.specs.Refusals.{is_accepted}
+use Rattle.ruler.specs.Made.{scale}
+use Rattle.layout.specs.Words.{half_length}
 use Rattle.layout.proofs.RulerCells.{deep-ruler}
-use Rattle.layout.proofs.Tables.{Table}
-use Rattle.store.proofs.Halves.{two_halves, second_long, first_next, second_first}
-use Rattle.build.specs.RowsJudged.{lengths}
-use Rattle.build.proofs.Outcomes.{left_old, left_new, accepted-table, first_half_lem, second_half_lem, rows-room}
+use Rattle.store.proofs.Halves.{two_halves}
+use Rattle.build.proofs.Says.{left_old, left_new, to_build}
 use native.Mathlib.Omega.{arith}
 use Rattle.build.proofs.build_on.Goals as goal
 
-pub returns-then-not-is_accepted : goal.returns-then-not-is_accepted
-returns-then-not-is_accepted c =
-    let a = c.args in
-    left_old (scale a.ruler) a.table.now a.directory.now a.originals.now a.replicas.now c.judged-outcome.result
-    c.judged-outcome.ensures (sym c.is_accepted.ensures ∙ c.if-not-is_accepted.true)
+pub returns-in_err-judged : goal.returns-in_err-judged
+returns-in_err-judged c =
+    let why = err_from_is_err_and c.from_residual.result c.from_residual.ensures.1 in
+    rw (why.1, why.2) (left_old _ _ _ _ _ c.judged.ensures _ c.in_err-judged.was)
 
-pub half_length-half-requires : goal.half_length-half-requires
-half_length-half-requires c = rw c.bottom.ensures
-    (deep-ruler c.args.ruler c.requires)
+pub half_length-requires : goal.half_length-requires
+half_length-requires c = rw c.bottom.ensures (deep-ruler c.args.ruler)
 
-pub offset_bounds-directory-half : goal.offset_bounds-directory-half
-offset_bounds-directory-half c =
-    let fine : is_accepted c.judged-outcome.result ≡ true = sym c.is_accepted.ensures ∙ c.if-not-is_accepted.false in
-    let a-table : let a = c.args in Table (scale a.ruler) (rows a.table.now) (lengths (length a.directory.now) (length a.originals.now) (length a.replicas.now)) × (length a.table.now % entry_words ≡ 0) =
-    let a = c.args in
-    accepted-table (scale a.ruler) a.table.now a.directory.now a.originals.now a.replicas.now c.judged-outcome.result
-    c.judged-outcome.ensures fine in
-    let half : c.half_length-half.result ≡ half_length (scale c.args.ruler).m = c.half_length-half.ensures ∙ ap half_length c.bottom.ensures in
-    let both : length c.args.directory.now ≡ c.half_length-half.result + c.half_length-half.result = two_halves _ a-table.0.directory half in
-    omega (arith, both)
+pub split_at_mut-o-requires : goal.split_at_mut-o-requires
+split_at_mut-o-requires c =
+    let w = to_build c.args.ruler _ _ _ _ c.judged.ensures c.in_ok-judged.was in
+    omega (arith, two_halves _ w.long (c.half_length.ensures ∙ ap half_length c.bottom.ensures))
 
-pub slice_bounds-fill_replicas-count : goal.slice_bounds-fill_replicas-count
-slice_bounds-fill_replicas-count c =
-    let fine : is_accepted c.judged-outcome.result ≡ true = sym c.is_accepted.ensures ∙ c.if-not-is_accepted.false in
-    let a-table : let a = c.args in Table (scale a.ruler) (rows a.table.now) (lengths (length a.directory.now) (length a.originals.now) (length a.replicas.now)) × (length a.table.now % entry_words ≡ 0) =
-    let a = c.args in
-    accepted-table (scale a.ruler) a.table.now a.directory.now a.originals.now a.replicas.now c.judged-outcome.result
-    c.judged-outcome.ensures fine in
-    let half : c.half_length-half.result ≡ half_length (scale c.args.ruler).m = c.half_length-half.ensures ∙ ap half_length c.bottom.ensures in
-    let both : length c.args.directory.now ≡ c.half_length-half.result + c.half_length-half.result = two_halves _ a-table.0.directory half in
-    omega (arith, both)
+pub fill_replicas-requires-clause-fillable : goal.fill_replicas-requires-clause-fillable
+fill_replicas-requires-clause-fillable c =
+    let w = to_build c.args.ruler _ _ _ _ c.judged.ensures c.in_ok-judged.was in
+    let half = c.half_length.ensures ∙ ap half_length c.bottom.ensures in
+    let long : length c.split_at_mut-o.result.1.now ≡ half_length (scale c.args.ruler).m =
+    omega (arith, two_halves _ w.long half, half, c.split_at_mut-o.ensures.back_len) in
+    rw long w.replicas
 
-pub slice_bounds-fill_replicas-start : goal.slice_bounds-fill_replicas-start
-slice_bounds-fill_replicas-start c =
-    let fine : is_accepted c.judged-outcome.result ≡ true = sym c.is_accepted.ensures ∙ c.if-not-is_accepted.false in
-    let a-table : let a = c.args in Table (scale a.ruler) (rows a.table.now) (lengths (length a.directory.now) (length a.originals.now) (length a.replicas.now)) × (length a.table.now % entry_words ≡ 0) =
-    let a = c.args in
-    accepted-table (scale a.ruler) a.table.now a.directory.now a.originals.now a.replicas.now c.judged-outcome.result
-    c.judged-outcome.ensures fine in
-    let half : c.half_length-half.result ≡ half_length (scale c.args.ruler).m = c.half_length-half.ensures ∙ ap half_length c.bottom.ensures in
-    let both : length c.args.directory.now ≡ c.half_length-half.result + c.half_length-half.result = two_halves _ a-table.0.directory half in
-    omega (arith, both)
-
-pub fill_replicas-requires : goal.fill_replicas-requires
-fill_replicas-requires c =
-    let fine : is_accepted c.judged-outcome.result ≡ true = sym c.is_accepted.ensures ∙ c.if-not-is_accepted.false in
-    let a-table : let a = c.args in Table (scale a.ruler) (rows a.table.now) (lengths (length a.directory.now) (length a.originals.now) (length a.replicas.now)) × (length a.table.now % entry_words ≡ 0) =
-    let a = c.args in
-    accepted-table (scale a.ruler) a.table.now a.directory.now a.originals.now a.replicas.now c.judged-outcome.result
-    c.judged-outcome.ensures fine in
-    let half : c.half_length-half.result ≡ half_length (scale c.args.ruler).m = c.half_length-half.ensures ∙ ap half_length c.bottom.ensures in
-    let both : length c.args.directory.now ≡ c.half_length-half.result + c.half_length-half.result = two_halves _ a-table.0.directory half in
-    let a = c.args in
-    let d = a.directory.now in
-    let table = a-table in
-    let long = second_long d c.half_length-half.result (length d) both refl in
-    record {
-      fillable = second_half_lem a.ruler a.table.now d a.originals.now a.replicas.now c.requires table.0 _ (long ∙ half);
-      room = (rows-room a.ruler a.table.now d a.originals.now a.replicas.now c.requires table.0 table.1, table.1);
-    }
-
-pub slice_bounds-fill-end : goal.slice_bounds-fill-end
-slice_bounds-fill-end c =
-    let fine : is_accepted c.judged-outcome.result ≡ true = sym c.is_accepted.ensures ∙ c.if-not-is_accepted.false in
-    let a-table : let a = c.args in Table (scale a.ruler) (rows a.table.now) (lengths (length a.directory.now) (length a.originals.now) (length a.replicas.now)) × (length a.table.now % entry_words ≡ 0) =
-    let a = c.args in
-    accepted-table (scale a.ruler) a.table.now a.directory.now a.originals.now a.replicas.now c.judged-outcome.result
-    c.judged-outcome.ensures fine in
-    let half : c.half_length-half.result ≡ half_length (scale c.args.ruler).m = c.half_length-half.ensures ∙ ap half_length c.bottom.ensures in
-    let both : length c.args.directory.now ≡ c.half_length-half.result + c.half_length-half.result = two_halves _ a-table.0.directory half in
-    omega (arith, both)
+pub fill_replicas-requires-clause-room : goal.fill_replicas-requires-clause-room
+fill_replicas-requires-clause-room c =
+    let w = to_build c.args.ruler _ _ _ _ c.judged.ensures c.in_ok-judged.was in
+    (w.room, w.whole)
 
 pub fill-requires : goal.fill-requires
 fill-requires c =
-    let fine : is_accepted c.judged-outcome.result ≡ true = sym c.is_accepted.ensures ∙ c.if-not-is_accepted.false in
-    let a-table : let a = c.args in Table (scale a.ruler) (rows a.table.now) (lengths (length a.directory.now) (length a.originals.now) (length a.replicas.now)) × (length a.table.now % entry_words ≡ 0) =
-    let a = c.args in
-    accepted-table (scale a.ruler) a.table.now a.directory.now a.originals.now a.replicas.now c.judged-outcome.result
-    c.judged-outcome.ensures fine in
-    let half : c.half_length-half.result ≡ half_length (scale c.args.ruler).m = c.half_length-half.ensures ∙ ap half_length c.bottom.ensures in
-    let both : length c.args.directory.now ≡ c.half_length-half.result + c.half_length-half.result = two_halves _ a-table.0.directory half in
-    let second-size : length c.fill_replicas.new.dir ≡ c.half_length-half.result =
-    let d = c.args.directory.now in
-    c.fill_replicas.auto.dir ∙ second_long d c.half_length-half.result (length d) both refl in
-    let a = c.args in
-    let d = a.directory.now in
-    let long = first_next d c.half_length-half.result (length d) both refl c.fill_replicas.new.dir second-size in
-    first_half_lem a.ruler a.table.now d a.originals.now a.replicas.now c.requires a-table.0 _ _ (long ∙ half)
-    c.fill_replicas.auto.spare
+    let w = to_build c.args.ruler _ _ _ _ c.judged.ensures c.in_ok-judged.was in
+    let half = c.half_length.ensures ∙ ap half_length c.bottom.ensures in
+    rw (c.split_at_mut-o.ensures.front_len ∙ half, c.fill_replicas.auto.spare) w.originals
 
 pub returns : goal.returns
 returns c =
-    let fine : is_accepted c.judged-outcome.result ≡ true = sym c.is_accepted.ensures ∙ c.if-not-is_accepted.false in
-    let a-table : let a = c.args in Table (scale a.ruler) (rows a.table.now) (lengths (length a.directory.now) (length a.originals.now) (length a.replicas.now)) × (length a.table.now % entry_words ≡ 0) =
-    let a = c.args in
-    accepted-table (scale a.ruler) a.table.now a.directory.now a.originals.now a.replicas.now c.judged-outcome.result
-    c.judged-outcome.ensures fine in
-    let half : c.half_length-half.result ≡ half_length (scale c.args.ruler).m = c.half_length-half.ensures ∙ ap half_length c.bottom.ensures in
-    let both : length c.args.directory.now ≡ c.half_length-half.result + c.half_length-half.result = two_halves _ a-table.0.directory half in
-    let second-size : length c.fill_replicas.new.dir ≡ c.half_length-half.result =
-    let d = c.args.directory.now in
-    c.fill_replicas.auto.dir ∙ second_long d c.half_length-half.result (length d) both refl in
-    let a = c.args in
-    let d = a.directory.now in
-    let one = c.fill in
-    let two = c.fill_replicas in
-    let halves = second_first d c.half_length-half.result (length d) both refl two.new.dir second-size one.new.dir
-    ∙ ap₂ ◌++◌ one.ensures.directory-is two.ensures.directory-is in
-    left_new (scale a.ruler) a.table.now d a.originals.now a.replicas.now c.judged-outcome.result
-    c.judged-outcome.ensures fine _ one.new.arena two.new.arena halves
-    (rw two.auto.spare at one.ensures.words_are) two.ensures.words_are
+    let o = c.fill in
+    let r = c.fill_replicas in
+    left_new _ _ _ _ _ c.judged.ensures c.in_ok-judged.was _ o.new.arena r.new.arena
+    (ap₂ ◌++◌ o.ensures.directory-is r.ensures.directory-is) (rw r.auto.spare at o.ensures.words_are) r.ensures.words_are

@@ -1,103 +1,56 @@
 -- The place that the search gives is that of the id among the trips; the trip there is taken out.
-use mathlib.Core.Path.{◌≡◌, ap, ◌∙◌}
-use Prim.Native.Nat.{ℕ, ◌-◌, ◌*◌}
-use lib.ListN.{length, get_or, take}
-use Rattle.ruler.specs.Ruler.{scale}
-use Rattle.layout.specs.Words.{entry_words, rows, partitions, directory_length, Index, lengths_of, layout}
-use Rattle.layout.specs.Refusals.{table_of}
-use Rattle.layout.specs.Calls.{index, without}
+use Rattle.std.proofs.Common.{◌≡◌, Some, None}
+use Rattle.std.proofs.lemmas.Result.{err_from_is_err_and}
+use Rattle.ruler.specs.Made.{scale}
+use Rattle.layout.specs.declared.Refusal.TheVariants.{NoSuchId}
+use Rattle.layout.specs.Calls.{index}
 use Rattle.layout.proofs.RulerCells.{deep-ruler}
-use Rattle.layout.proofs.Checked.{checked}
-use Rattle.edit.specs.Search.{place_of_id}
-use Rattle.edit.proofs.IndexRead.{Shown, shown}
+use Rattle.edit.proofs.IndexRead.{seen, trips_read, rows-read}
+use Rattle.edit.proofs.HalfLent.{removing}
 use Rattle.edit.proofs.Chained.{remove-accepted}
 use Rattle.edit.proofs.Removed.{found, not_found}
 use native.Mathlib.Omega.{arith}
 use Rattle.edit.proofs.remove_checked.Goals as goal
 
 pub trips_of-trips-requires : goal.trips_of-trips-requires
-unfolding directory_length
-trips_of-trips-requires c =
-    let words : Index = index c.args.directory.now c.args.originals.now c.args.replicas.now in
-    let in-index : Shown (scale c.args.ruler) words = shown _ _ (checked _ _ c.requires.checked) (deep-ruler c.args.ruler c.requires.made) in
-    rw c.bottom.ensures (deep-ruler c.args.ruler c.requires.made, omega (arith, in-index.size))
-
-pub overflow_mul-used : goal.overflow_mul-used
-overflow_mul-used c =
-    let words : Index = index c.args.directory.now c.args.originals.now c.args.replicas.now in
-    let in-index : Shown (scale c.args.ruler) words = shown _ _ (checked _ _ c.requires.checked) (deep-ruler c.args.ruler c.requires.made) in
-    let counted : c.trips_of-trips.result ≡ length (table_of (scale c.args.ruler) words) =
-    c.trips_of-trips.ensures ∙ ap (λ (m : ℕ). get_or c.args.directory.now (2 * partitions m) 0) c.bottom.ensures
-    ∙ in-index.trips in
-    omega (arith, in-index, counted)
+trips_of-trips-requires c = rw c.bottom.ensures (deep-ruler c.args.ruler, (seen c.args.ruler _ c.requires).word_in)
 
 pub slice_bounds-find_id-end : goal.slice_bounds-find_id-end
 slice_bounds-find_id-end c =
-    let words : Index = index c.args.directory.now c.args.originals.now c.args.replicas.now in
-    let in-index : Shown (scale c.args.ruler) words = shown _ _ (checked _ _ c.requires.checked) (deep-ruler c.args.ruler c.requires.made) in
-    let counted : c.trips_of-trips.result ≡ length (table_of (scale c.args.ruler) words) =
-    c.trips_of-trips.ensures ∙ ap (λ (m : ℕ). get_or c.args.directory.now (2 * partitions m) 0) c.bottom.ensures
-    ∙ in-index.trips in
-    omega (arith, in-index, counted)
+    let w = seen c.args.ruler _ c.requires in
+    omega (arith, w.inside, trips_read _ _ w c.bottom.ensures c.trips_of-trips.ensures)
 
-pub returns-then-trips-place : goal.returns-then-trips-place
-returns-then-trips-place c =
-    let words : Index = index c.args.directory.now c.args.originals.now c.args.replicas.now in
-    let in-index : Shown (scale c.args.ruler) words = shown _ _ (checked _ _ c.requires.checked) (deep-ruler c.args.ruler c.requires.made) in
-    let counted : c.trips_of-trips.result ≡ length (table_of (scale c.args.ruler) words) =
-    c.trips_of-trips.ensures ∙ ap (λ (m : ℕ). get_or c.args.directory.now (2 * partitions m) 0) c.bottom.ensures
-    ∙ in-index.trips in
-    let s = scale c.args.ruler in
-    let x = index c.args.directory.now c.args.originals.now c.args.replicas.now in
-    let w = in-index in
-    let read = ap (λ (k : ℕ). rows (take (entry_words * k - 0) x.originals)) counted ∙ w.listed in
-    let place = c.find_id-place.ensures ∙ ap (place_of_id c.args.id) read in
-    not_found s x c.args.id _ c.requires.checked w place _ (omega (arith, counted, c.if-trips-place.true))
-    c.refused.ensures
+pub returns-in_err-place : goal.returns-in_err-place
+returns-in_err-place c =
+    let w = seen c.args.ruler _ c.requires in
+    let read = rows-read _ _ w (trips_read _ _ w c.bottom.ensures c.trips_of-trips.ensures) in
+    let none : c.find_id.result ≡ None = grind arith in
+    let which : c.in_err-place.field-0.0 ≡ NoSuchId = grind arith in
+    let why = err_from_is_err_and c.from_residual.result c.from_residual.ensures.1 in
+    rw (why.1, why.2, which) (not_found _ _ c.args.id c.requires w (rw (read, none) at c.find_id.ensures))
 
 pub trip_at-t-requires : goal.trip_at-t-requires
 trip_at-t-requires c =
-    let words : Index = index c.args.directory.now c.args.originals.now c.args.replicas.now in
-    let in-index : Shown (scale c.args.ruler) words = shown _ _ (checked _ _ c.requires.checked) (deep-ruler c.args.ruler c.requires.made) in
-    let counted : c.trips_of-trips.result ≡ length (table_of (scale c.args.ruler) words) =
-    c.trips_of-trips.ensures ∙ ap (λ (m : ℕ). get_or c.args.directory.now (2 * partitions m) 0) c.bottom.ensures ∙ in-index.trips in
-    omega (arith, in-index, counted, c.if-trips-place.false)
+    let w = seen c.args.ruler _ c.requires in
+    let read = rows-read _ _ w (trips_read _ _ w c.bottom.ensures c.trips_of-trips.ensures) in
+    let some : c.find_id.result ≡ Some c.in_ok-place.place = grind arith in
+    let at = rw (read, some) at c.find_id.ensures in
+    omega (arith, w.inside, at.0)
 
-pub take_out-requires : goal.take_out-requires
-take_out-requires c =
-    let words : Index = index c.args.directory.now c.args.originals.now c.args.replicas.now in
-    let in-index : Shown (scale c.args.ruler) words = shown _ _ (checked _ _ c.requires.checked) (deep-ruler c.args.ruler c.requires.made) in
-    let counted : c.trips_of-trips.result ≡ length (table_of (scale c.args.ruler) words) =
-    c.trips_of-trips.ensures ∙ ap (λ (m : ℕ). get_or c.args.directory.now (2 * partitions m) 0) c.bottom.ensures
-    ∙ in-index.trips in
-    let s = scale c.args.ruler in
-    let x = index c.args.directory.now c.args.originals.now c.args.replicas.now in
-    let w = in-index in
-    let read = ap (λ (k : ℕ). rows (take (entry_words * k - 0) x.originals))
-    counted ∙ w.listed in
-    let place = c.find_id-place.ensures ∙ ap (place_of_id c.args.id) read in
-    let f = found s x c.args.id _ c.requires.checked w place c.trip_at-t.result (omega (
-      arith,
-      counted,
-      c.if-trips-place.false,
-    ))
-    c.trip_at-t.ensures in
-    record { made = c.requires.made; accepted = rw f.same f.accepted; listed = f.member }
+pub write-requires : goal.write-requires
+write-requires c =
+    let w = seen c.args.ruler _ c.requires in
+    let read = rows-read _ _ w (trips_read _ _ w c.bottom.ensures c.trips_of-trips.ensures) in
+    let some : c.find_id.result ≡ Some c.in_ok-place.place = grind arith in
+    let f = found _ _ c.args.id c.requires w c.trip_at-t.result c.in_ok-place.place (rw (read, some) at c.find_id.ensures) c.trip_at-t.ensures in
+    (_, removing c.args.ruler _ _ (rw f.same f.accepted) f.member)
 
 pub returns : goal.returns
 returns c =
-    let words : Index = index c.args.directory.now c.args.originals.now c.args.replicas.now in
-    let in-index : Shown (scale c.args.ruler) words = shown _ _ (checked _ _ c.requires.checked) (deep-ruler c.args.ruler c.requires.made) in
-    let counted : c.trips_of-trips.result ≡ length (table_of (scale c.args.ruler) words) =
-    c.trips_of-trips.ensures ∙ ap (λ (m : ℕ). get_or c.args.directory.now (2 * partitions m) 0) c.bottom.ensures
-    ∙ in-index.trips in
-    let s = scale c.args.ruler in
     let x = index c.args.directory.now c.args.originals.now c.args.replicas.now in
-    let w = in-index in
-    let read = ap (λ (k : ℕ). rows (take (entry_words * k - 0) x.originals)) counted ∙ w.listed in
-    let place = c.find_id-place.ensures ∙ ap (place_of_id c.args.id) read in
-    let f = found s x c.args.id _ c.requires.checked w place c.trip_at-t.result
-    (omega (arith, counted, c.if-trips-place.false))
-    c.trip_at-t.ensures in
-    remove-accepted s x _ c.args.id f.accepted (c.take_out.ensures
-    ∙ ap (λ (k : ℕ). layout s (without k (table_of s x)) (lengths_of x)) f.same)
+    let w = seen c.args.ruler _ c.requires in
+    let read = rows-read _ _ w (trips_read _ _ w c.bottom.ensures c.trips_of-trips.ensures) in
+    let some : c.find_id.result ≡ Some c.in_ok-place.place = grind arith in
+    let f = found _ _ c.args.id c.requires w c.trip_at-t.result c.in_ok-place.place (rw (read, some) at c.find_id.ensures) c.trip_at-t.ensures in
+    remove-accepted (scale c.args.ruler) x _ c.args.id f.accepted
+    (rw f.same at (c.write.ensures _ (removing c.args.ruler x c.trip_at-t.result (rw f.same f.accepted) f.member)))

@@ -6,4 +6,4 @@ use Rattle.export.proofs.kheyambo_add.Goals as goal
 pub returns : goal.returns
 unfolding add_said
 returns c =
-    left_so c.in_numbers.ensures (rw (c.numbers_named.ensures, c.of-t.ensures) at c.add.ensures)
+    left_so c.from-2.ensures (rw (c.from.ensures, c.of-t.ensures) at c.add.ensures)

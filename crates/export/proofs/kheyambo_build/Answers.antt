@@ -11,5 +11,5 @@ unfolding build_said
 returns c =
     let a = c.args in
     let x = index a.directory.now a.originals.now a.replicas.now in
-    left_so c.in_numbers.ensures c.build.ensures
-    ∙ ap (λ (n : Numbers). build_said n a.table.now x) c.numbers_named.ensures
+    left_so c.from-2.ensures c.build.ensures
+    ∙ ap (λ (n : Numbers). build_said n a.table.now x) c.from.ensures

@@ -12,7 +12,7 @@ pub rows_opened-rows-requires : goal.rows_opened-rows-requires
 rows_opened-rows-requires c =
     let a = c.args in
     let x = index a.directory.now a.originals.now a.replicas.now in
-    readable c.numbers_named.result x c.open-opened.ensures
+    readable c.from.result x c.open-opened.ensures
 
 pub returns : goal.returns
 unfolding census_said check_said
@@ -20,6 +20,6 @@ returns c =
     let a = c.args in
     let x = index a.directory.now a.originals.now a.replicas.now in
     let n = numbers_named a.ruler in
-    let opened = rw c.numbers_named.ensures at c.open-opened.ensures in
-    counted_so (c.in_numbers.ensures ∙ ap said_of (c.outcome_of.ensures ∙ ap outcome_of opened ∙ told n x))
+    let opened = rw c.from.ensures at c.open-opened.ensures in
+    counted_so (c.from-2.ensures ∙ ap said_of (c.outcome_of.ensures ∙ ap outcome_of opened ∙ told n x))
     (c.rows_opened-rows.ensures ∙ rows-opened n x _ opened)

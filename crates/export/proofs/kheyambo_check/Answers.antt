@@ -5,4 +5,4 @@ use Rattle.export.proofs.kheyambo_check.Goals as goal
 
 pub returns : goal.returns
 unfolding check_said
-returns c = c.in_numbers.ensures ∙ ap said_of (rw c.numbers_named.ensures at c.check.ensures)
+returns c = c.from-2.ensures ∙ ap said_of (rw c.from.ensures at c.check.ensures)

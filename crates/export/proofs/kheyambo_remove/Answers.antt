@@ -11,5 +11,5 @@ unfolding remove_said
 returns c =
     let a = c.args in
     let x = index a.directory.now a.originals.now a.replicas.now in
-    left_so c.in_numbers.ensures c.remove.ensures
-    ∙ ap (λ (n : Numbers). remove_said n a.id x) c.numbers_named.ensures
+    left_so c.from-2.ensures c.remove.ensures
+    ∙ ap (λ (n : Numbers). remove_said n a.id x) c.from.ensures

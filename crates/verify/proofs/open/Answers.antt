@@ -1,59 +1,37 @@
--- The tests 1, 3, 8 in their order.
-use mathlib.Core.Path.{sym, ap, ◌∙◌}
-use mathlib.Core.Bool.{true, false}
-use Rattle.ruler.specs.declared.Numbers.{Numbers}
-use Rattle.ruler.specs.Ruler.{scale_of}
-use Rattle.ruler.proofs.RulerMade.{judged_good, judged_out}
+-- 1 and 3 first, then 8.
+use Rattle.std.proofs.Common.{sym, false, true, not, ◌∙◌}
+use Rattle.std.proofs.lemmas.Result.{err_from_is_err_and}
 use Rattle.ruler.proofs.Fair.{scale-good}
-use Rattle.layout.specs.Words.{directory_length}
-use Rattle.layout.specs.Refusals.{refuse}
-use Rattle.layout.proofs.Checked.{check-bounds, check-length, check-words}
-use Rattle.verify.specs.declared.Opened.TheVariants.{Index as Opens}
-use Rattle.verify.specs.Opening.{opened_as}
-use Rattle.verify.proofs.Opening.{opened_as_lem}
-use Rattle.layout.proofs.RulerCells.{deep-ruler}
+use Rattle.layout.specs.declared.Refusal.TheVariants.{NotAnIndex}
+use Rattle.layout.specs.Outcomes.{Accepted}
+use Rattle.store.specs.WordsLent.{index_of}
+use Rattle.layout.specs.Refusals.{refuse, is_index, check_outcome, index_tests, frame_tests}
+use Rattle.ruler.specs.Ruler.{scale_of}
+use Rattle.layout.proofs.Checked.{check-words}
+use Rattle.layout.proofs.RulerIf.{refuses, gives_ruler}
+use Rattle.store.proofs.FrameKnown.{framed_for, framed_none}
+use Rattle.verify.specs.Opening.{open_of}
 use Rattle.verify.proofs.open.Goals as goal
 
-pub returns-in_default : goal.returns-in_default
-unfolding opened_as
-returns-in_default c = opened_as_lem _ _ (check-bounds _ _ (scale-good _ ∙ judged_out _ (sym c.new.ensures ∙ c.in_default.is)))
-
-pub directory_length-requires : goal.directory_length-requires
-directory_length-requires c =
-    let made = judged_good _ c.in-Good.ruler (sym c.new.ensures ∙ c.in-Good.is) in
-    rw c.bottom.ensures (deep-ruler c.in-Good.ruler made.made)
-
-pub returns-then-directory-directory_length : goal.returns-then-directory-directory_length
-unfolding opened_as
-returns-then-directory-directory_length c =
-    let made = judged_good _ c.in-Good.ruler (sym c.new.ensures ∙ c.in-Good.is) in
-    let bottom = c.bottom.ensures ∙ ap (λ (k : Numbers). (scale_of k).m) made.numbers in
-    let long = c.directory_length.ensures ∙ ap directory_length bottom in
-    opened_as_lem _ _ (check-length _ _ (scale-good _ ∙ made.good) (λ e. c.if-directory-directory_length.true (e ∙ sym long)))
+pub returns-in_err-ruler : goal.returns-in_err-ruler
+unfolding open_of check_outcome index_tests frame_tests
+returns-in_err-ruler c =
+    let why = err_from_is_err_and c.from_residual.result c.from_residual.ensures.1 in
+    rw (why.1, why.2) (refuses _ _ 0 (sym (framed_none _ _ _ c.ruler_for.ensures c.in_err-ruler.was (refuse (not (is_index (scale_of c.args.numbers) (index_of c.args.words))) NotAnIndex 0 Accepted))))
 
 pub is_index-requires : goal.is_index-requires
-is_index-requires c =
-    let made = judged_good _ c.in-Good.ruler (sym c.new.ensures ∙ c.in-Good.is) in
-    record {
-      made = made.made;
-      directory_len = c.if-directory-directory_length.false ∙ c.directory_length.ensures ∙ ap directory_length c.bottom.ensures;
-    }
+is_index-requires c = (framed_for _ _ c.in_ok-ruler.ruler c.ruler_for.ensures c.in_ok-ruler.was).long
 
 pub returns-then-not-is_index : goal.returns-then-not-is_index
-unfolding refuse opened_as
+unfolding open_of refuse
 returns-then-not-is_index c =
-    let made = judged_good _ c.in-Good.ruler (sym c.new.ensures ∙ c.in-Good.is) in
-    let bottom = c.bottom.ensures ∙ ap (λ (k : Numbers). (scale_of k).m) made.numbers in
-    let long = c.directory_length.ensures ∙ ap directory_length bottom in
-    let refused = rw made.numbers at (sym c.is_index.ensures ∙ c.if-not-is_index.true) in
-    opened_as_lem _ _ (check-words _ _ false (scale-good _ ∙ made.good) (c.if-directory-directory_length.false ∙ long) refused)
+    let w = framed_for _ _ c.in_ok-ruler.ruler c.ruler_for.ensures c.in_ok-ruler.was in
+    let refused = rw w.numbers at (sym c.is_index.ensures ∙ c.if-not-is_index.true) in
+    refuses _ _ 0 (check-words _ _ false (scale-good _ ∙ w.good) (rw w.numbers at w.long) refused)
 
 pub returns : goal.returns
-unfolding refuse opened_as
+unfolding open_of refuse
 returns c =
-    let made = judged_good _ c.in-Good.ruler (sym c.new.ensures ∙ c.in-Good.is) in
-    let bottom = c.bottom.ensures ∙ ap (λ (k : Numbers). (scale_of k).m) made.numbers in
-    let long = c.directory_length.ensures ∙ ap directory_length bottom in
-    let passed = rw made.numbers at (sym c.is_index.ensures ∙ c.if-not-is_index.false) in
-    ap Opens made.is
-    ∙ opened_as_lem _ _ (check-words _ _ true (scale-good _ ∙ made.good) (c.if-directory-directory_length.false ∙ long) passed)
+    let w = framed_for _ _ c.in_ok-ruler.ruler c.ruler_for.ensures c.in_ok-ruler.was in
+    let passed = rw w.numbers at (sym c.is_index.ensures ∙ c.if-not-is_index.false) in
+    gives_ruler _ w.numbers (check-words _ _ true (scale-good _ ∙ w.good) (rw w.numbers at w.long) passed)

@@ -7,15 +7,15 @@ use Rattle.view.proofs.rows_opened.Goals as goal
 
 pub level_rows-requires : goal.level_rows-requires
 level_rows-requires c =
-    rw c.bottom.ensures (c.requires.halves c.in-Index.ruler c.in-Index.is)
+    rw c.bottom.ensures (c.requires.halves c.in-Ok.ruler c.in-Ok.is)
 
-pub returns-in-Index : goal.returns-in-Index
+pub returns-in-Ok : goal.returns-in-Ok
 unfolding rows_opened
-returns-in-Index c =
+returns-in-Ok c =
     let a = c.args in
     c.level_rows.ensures ∙ ap (rows_of a.directory.now) c.bottom.ensures
-    ∙ sym (ap (λ o. rows_opened o a.directory.now) c.in-Index.is)
+    ∙ sym (ap (λ o. rows_opened o a.directory.now) c.in-Ok.is)
 
-pub returns-in-Refused : goal.returns-in-Refused
+pub returns-in-Err : goal.returns-in-Err
 unfolding rows_opened no_census
-returns-in-Refused c = rw c.in-Refused.is
+returns-in-Err c = rw c.in-Err.is

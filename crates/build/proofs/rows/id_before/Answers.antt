@@ -1,5 +1,5 @@
 -- The rows passed do not have the id, so those left decide.
-use mathlib.Core.Path.{◌≡◌, refl, sym, ap, ◌∙◌}
+use mathlib.Core.Path.{◌≡◌, sym, ap, ◌∙◌}
 use mathlib.Core.Bool.{Bool, ◌||◌}
 use Prim.Native.Nat.{ℕ, ◌-◌}
 use borrow.Author.Tests.{eq-eqb, ne_eqb}
@@ -10,19 +10,13 @@ use Rattle.build.proofs.RowsJudged.{before_turn}
 use native.Mathlib.Omega.{arith}
 use Rattle.build.proofs.rows.id_before.Goals as goal
 
-pub loop-j-init : goal.loop-j-init
-loop-j-init c = (omega arith, refl)
-
-pub trip_at-t-requires : goal.trip_at-t-requires
-trip_at-t-requires c = omega (arith, c.loop-j.invariant.0)
-
 pub returns-then-t-id : goal.returns-then-t-id
 returns-then-t-id c =
     let g = c.args in
     let k = c.loop-j in
     let has = eq-eqb _ _ (sym (ap (λ (t : Trip). t.id) c.trip_at-t.ensures) ∙ c.if-t-id.true) in
     sym (ap (λ (b : Bool). b || has_id g.id (rows_back g.table.now (k.j - 1))) has)
-    ∙ sym (before_turn g.table.now g.id k.j (omega arith)) ∙ k.invariant.1
+    ∙ sym (before_turn g.table.now g.id k.j (omega arith)) ∙ k.invariant
 
 pub loop-j-preserved : goal.loop-j-preserved
 loop-j-preserved c =
@@ -31,11 +25,11 @@ loop-j-preserved c =
     let lacks = ne_eqb _ _ (λ e. c.if-t-id.false (ap (λ (t : Trip). t.id) c.trip_at-t.ensures ∙ e)) in
     let rest = sym (ap (λ (b : Bool). b || has_id g.id (rows_back g.table.now (k.j - 1))) lacks)
     ∙ sym (before_turn g.table.now g.id k.j (omega arith)) in
-    (omega (arith, k.invariant.0), rest ∙ k.invariant.1)
+    rest ∙ k.invariant
 
 pub returns : goal.returns
 unfolding has_id
 returns c =
     let g = c.args in
     let e : c.loop-j.j ≡ 0 = omega arith in
-    sym (ap (λ (k : ℕ). has_id g.id (rows_back g.table.now k)) e) ∙ c.loop-j.invariant.1
+    sym (ap (λ (k : ℕ). has_id g.id (rows_back g.table.now k)) e) ∙ c.loop-j.invariant

@@ -1,12 +1,8 @@
 -- The rows passed do not have the id, so those left decide.
 use mathlib.Core.Path.{◌≡◌}
-use Prim.Native.Nat.{◌≤◌}
 use Rattle.layout.specs.Refusals.{has_id}
 use Rattle.build.specs.RowsJudged.{rows_back}
 use Rattle.build.proofs.rows.id_before.Given as goal
 
 abbrev pub invariant-loop-j : goal.invariant-loop-j
-invariant-loop-j l = (l.j ≤ l.i) × (has_id l.id (rows_back l.table l.j) ≡ has_id l.id (rows_back l.table l.i))
-
-abbrev pub decreases-loop-j : goal.decreases-loop-j
-decreases-loop-j l = l.j
+invariant-loop-j l = has_id l.id (rows_back l.table l.j) ≡ has_id l.id (rows_back l.table l.i)

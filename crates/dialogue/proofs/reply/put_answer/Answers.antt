@@ -2,10 +2,10 @@
 use Rattle.dialogue.specs.Reply.{answer_bytes}
 use Rattle.dialogue.proofs.reply.put_answer.Goals as goal
 
-pub returns-in-Accepted : goal.returns-in-Accepted
+pub returns-in-Ok : goal.returns-in-Ok
 unfolding answer_bytes
-returns-in-Accepted c = rw c.in-Accepted.is c.put_list.ensures
+returns-in-Ok c = rw c.in-Ok.is c.put_list.ensures
 
-pub returns-in-Refused : goal.returns-in-Refused
+pub returns-in-Err : goal.returns-in-Err
 unfolding answer_bytes
-returns-in-Refused c = rw c.in-Refused.is (rw c.in-Refused.is at c.put_outcome.ensures)
+returns-in-Err c = rw c.in-Err.is c.put_outcome.ensures

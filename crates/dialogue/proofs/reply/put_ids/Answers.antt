@@ -4,19 +4,19 @@ use lib.ListN.{length-set}
 use native.Mathlib.Omega.{arith}
 use Rattle.dialogue.proofs.reply.put_ids.Goals as goal
 
-pub loop-i-init : goal.loop-i-init
-loop-i-init c = putting_start _ _ _ (omega arith)
+pub loop-id-init : goal.loop-id-init
+loop-id-init c = putting_start _ _ _ (omega arith)
 
 pub put_number-to-requires : goal.put_number-to-requires
-put_number-to-requires c = simp length-set (omega (arith, c.loop-i.invariant.room, c.loop-i.invariant.long))
+put_number-to-requires c = simp length-set (omega (arith, c.loop-id.invariant.room, c.loop-id.invariant.long))
 
-pub loop-i-preserved : goal.loop-i-preserved
-loop-i-preserved c = putting_turn c.loop-i.invariant (omega arith)
-    (omega (arith, c.type_inv.ids c.loop-i.i))
+pub loop-id-preserved : goal.loop-id-preserved
+loop-id-preserved c = putting_turn c.loop-id.invariant (omega arith)
+    (omega (arith, c.type_inv.ids c.loop-id.id-index))
     c.put_number-to.ensures
 
 pub shape_of-reply : goal.shape_of-reply
-shape_of-reply c = c.loop-i.invariant.long
+shape_of-reply c = c.loop-id.invariant.long
 
 pub returns : goal.returns
-returns c = putting_end c.loop-i.invariant (omega arith)
+returns c = putting_end c.loop-id.invariant (omega arith)

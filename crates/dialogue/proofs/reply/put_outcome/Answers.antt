@@ -11,29 +11,29 @@ use Rattle.dialogue.proofs.Replies.{three_puts}
 use native.Mathlib.Omega.{arith}
 use Rattle.dialogue.proofs.reply.put_outcome.Goals as goal
 
-pub put-requires-in-Refused : goal.put-requires-in-Refused
-put-requires-in-Refused c =
+pub put-requires-in-Err : goal.put-requires-in-Err
+put-requires-in-Err c =
     let w = c.put-word.ensures in
     let n = c.put_number-number.ensures in
-    let few = ten_digits c.refusal_number.result (omega arith) in
+    let few = ten_digits c.from.result (omega arith) in
     let long : length c.put_number-number.new.reply
     ≡ length c.args.reply.now =
     ap length n.1 ∙ simp length-sets (ap length w.1 ∙ simp length-sets) in
     omega (arith, w.0, n.0)
 
-pub returns-in-Accepted : goal.returns-in-Accepted
+pub returns-in-Ok : goal.returns-in-Ok
 unfolding as_line outcome_bytes ok_bytes
-returns-in-Accepted c = rw c.in-Accepted.is
+returns-in-Ok c = rw c.in-Ok.is
     (c.put.ensures.0, c.put.ensures.1, omega (arith, c.put.ensures.0))
 
-pub returns-in-Refused : goal.returns-in-Refused
+pub returns-in-Err : goal.returns-in-Err
 unfolding as_line outcome_bytes refused_bytes
-returns-in-Refused c =
-    let r = c.refusal_number in
+returns-in-Err c =
+    let r = c.from in
     let three = three_puts c.args.reply.now (refused_bytes ++ (space ∷ [])) (decimal r.result) (newline ∷ [])
-    c.put-word.ensures c.put_number-number.ensures c.put-in-Refused.ensures in
+    c.put-word.ensures c.put_number-number.ensures c.put-in-Err.ensures in
     let few = ten_digits r.result (omega arith) in
     let w = c.put-word.ensures in
     let n = c.put_number-number.ensures in
     let whole = rw r.ensures at three in
-    rw c.in-Refused.is (whole.0, whole.1, omega (arith, w.0, n.0, c.put-in-Refused.ensures.0))
+    rw c.in-Err.is (whole.0, whole.1, omega (arith, w.0, n.0, c.put-in-Err.ensures.0))

@@ -7,15 +7,15 @@ use Rattle.dialogue.proofs.turn.remove_turn.Goals as goal
 
 pub slice_bounds-remove-end : goal.slice_bounds-remove-end
 slice_bounds-remove-end c =
-    in_front c.args.desk.numbers c.args.directory.now c.directory_words-n.ensures c.requires.0 c.requires.1
+    in_front c.args.numbers c.args.directory.now c.directory_words-n.ensures c.requires.0 c.requires.1.0
 
 pub returns : goal.returns
 returns c =
     let a = c.args in
     let n = c.directory_words-n in
     let made = c.remove-outcome in
-    let call : Index → After = λ x. remove_of (scale_of a.desk.numbers) x a.id in
-    λ l. rw c.goes_on.ensures (edited_done a.desk.numbers a.directory.now a.originals.now a.replicas.now n.result
-    n.ensures c.requires.0 c.requires.1
-    a.desk l call made.ensures c.directory-1.given.0
+    let call : Index → After = λ x. remove_of (scale_of a.numbers) x a.id in
+    λ l. rw c.goes_on.ensures (edited_done a.numbers a.directory.now a.originals.now a.replicas.now n.result
+    n.ensures c.requires.0 c.requires.1.0
+    l call made.ensures c.directory-1.given.0
     c.put_outcome-written.ensures)

@@ -1,19 +1,13 @@
 -- The part between the two words of the directory has the slot's rows, which are in order.
-use Prim.Native.Nat.{◌+◌}
-use Rattle.store.specs.Parts.{PartThere}
 use Rattle.edit.proofs.OneSlot.{slot-there, part_ordered, part_place}
 use native.Mathlib.Omega.{arith}
 use Rattle.edit.proofs.one_slot.place_in.Goals as goal
 
 pub overflow_add-slot : goal.overflow_add-slot
-overflow_add-slot c =
-    let in_words : PartThere c.args.dir.now c.args.arena.now c.args.slot (c.args.slot + 1) = slot-there c.args.dir.now c.args.arena.now c.requires.0 c.args.half c.args.slot c.requires.1 in
-    omega (arith, in_words)
+overflow_add-slot c = omega (arith, slot-there c.args.dir.now c.args.arena.now c.requires.0 c.args.half c.args.slot c.requires.1)
 
 pub part_between-requires : goal.part_between-requires
-part_between-requires c =
-    let in_words : PartThere c.args.dir.now c.args.arena.now c.args.slot (c.args.slot + 1) = slot-there c.args.dir.now c.args.arena.now c.requires.0 c.args.half c.args.slot c.requires.1 in
-    omega (arith, in_words)
+part_between-requires c = omega (arith, slot-there c.args.dir.now c.args.arena.now c.requires.0 c.args.half c.args.slot c.requires.1)
 
 pub find_place-requires : goal.find_place-requires
 find_place-requires c =

@@ -1,12 +1,11 @@
 -- The id is looked for among those that are there, and the tests are those of the trip.
-use mathlib.Core.Path.{sym, ap, ◌∙◌}
+use mathlib.Core.Path.{ap, ◌∙◌}
 use mathlib.Core.Bool.{Bool}
-use Rattle.ruler.specs.Ruler.{scale}
-use Rattle.layout.specs.declared.Outcome.TheVariants.{Accepted}
+use Rattle.ruler.specs.Made.{scale}
+use Rattle.layout.specs.Outcomes.{Accepted}
 use Rattle.layout.specs.Words.{rows}
 use Rattle.layout.specs.Refusals.{row_tests_by, row_tests}
-use Rattle.layout.proofs.Rows.{length-rows}
-use Rattle.edit.proofs.IndexRead.{has_place}
+use Rattle.edit.proofs.IndexRead.{found-taken}
 use Rattle.edit.proofs.tests.trip_outcome.Goals as goal
 
 pub returns : goal.returns
@@ -14,4 +13,4 @@ unfolding row_tests
 returns c =
     let a = c.args in
     c.row_outcome.ensures ∙ ap (λ (taken : Bool). row_tests_by (scale a.ruler) taken a.t 0 Accepted)
-    (rw (c.find_id.ensures, ← length-rows a.there.now) (sym (has_place a.t.id (rows a.there.now))))
+    (c.is_some-taken.ensures ∙ found-taken a.t.id (rows a.there.now) _ c.find_id.ensures)

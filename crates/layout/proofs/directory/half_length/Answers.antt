@@ -6,9 +6,6 @@ use Rattle.layout.specs.Words.{partitions, half_length}
 use native.Mathlib.Omega.{arith}
 use Rattle.layout.proofs.directory.half_length.Goals as goal
 
-pub overflow_sub-result : goal.overflow_sub-result
-overflow_sub-result c = omega (arith, c.power.ensures, pow_pos c.args.m)
-
 pub returns : goal.returns
 unfolding half_length partitions
 returns c = rw (add-one c.args.m) (omega (arith, c.power.ensures, two-pow-succ c.args.m, pow_pos c.args.m))

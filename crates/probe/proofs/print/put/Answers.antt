@@ -1,30 +1,25 @@
 -- A number has at most ten digits, so they have room.
-use mathlib.Core.Path.{ap, ◌∙◌}
-use Prim.Native.Nat.{◌-◌, ◌≤◌}
+use mathlib.Core.Path.{◌≡◌, ap, ◌∙◌}
+use mathlib.Core.List.{List}
+use Prim.Native.Nat.{ℕ, ◌+◌, ◌-◌, ◌^◌, ◌≤◌, ◌<◌}
 use lib.ListN.{length, take, drop, length-take, length-drop}
-use Rattle.text.specs.Decimal.{decimal, Written}
+use Rattle.text.specs.Number.{most_digits}
+use Rattle.text.specs.Decimal.{decimal, Written, written, written_of}
 use Rattle.text.proofs.Writing.{ten_digits, fits-front}
 use native.Mathlib.Omega.{arith}
 use Rattle.probe.proofs.print.put.Goals as goal
 
+-- what is written at a place has at most ten digits
+few : (out : List ℕ) (at n : ℕ) → n < 2 ^ 32 → at + most_digits ≤ length out → {count : ℕ} {bytes : List ℕ}
+    → written count bytes ≡ written_of n (take (length out - at) (drop at out)) → count ≤ most_digits
+few out at n small room e =
+    let part = take (length out - at) (drop at out) in
+    let digits = ten_digits n small in
+    let fits : length (decimal n) ≤ length part = simp (length-take, length-drop) (omega arith) in
+    omega (arith, ap (λ (w : Written). w.count) (e ∙ fits-front n part fits))
+
 pub overflow_add-result : goal.overflow_add-result
-overflow_add-result c =
-    let few : c.write_number.result ≤ 10 =
-    let a = c.args in
-    let part = take (length a.out.now - a.at) (drop a.at a.out.now) in
-    let digits = ten_digits a.n (omega arith) in
-    let room : length (decimal a.n) ≤ length part = simp (length-take, length-drop) (omega arith) in
-    let e = c.write_number.ensures ∙ fits-front a.n part room in
-    omega (arith, ap (λ (w : Written). w.count) e) in
-    omega (arith, few)
+overflow_add-result c = omega (arith, few c.args.out.now c.args.at c.args.n (omega arith) (omega arith) c.write_number.ensures)
 
 pub returns : goal.returns
-returns c =
-    let few : c.write_number.result ≤ 10 =
-    let a = c.args in
-    let part = take (length a.out.now - a.at) (drop a.at a.out.now) in
-    let digits = ten_digits a.n (omega arith) in
-    let room : length (decimal a.n) ≤ length part = simp (length-take, length-drop) (omega arith) in
-    let e = c.write_number.ensures ∙ fits-front a.n part room in
-    omega (arith, ap (λ (w : Written). w.count) e) in
-    omega (arith, few)
+returns c = omega (arith, few c.args.out.now c.args.at c.args.n (omega arith) (omega arith) c.write_number.ensures)

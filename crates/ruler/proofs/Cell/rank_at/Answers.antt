@@ -1,11 +1,8 @@
 -- The number of all cells of its level, shifted with its own number, is that of all cells of the level above.
-use lib.Pow.{pow_pos, pow_mono}
+use lib.Pow.{pow_pos}
 use Rattle.ruler.proofs.CellLevels.{up_all}
 use native.Mathlib.Omega.{arith}
 use Rattle.ruler.proofs.Cell.rank_at.Goals as goal
-
-pub overflow_add-result : goal.overflow_add-result
-overflow_add-result c = omega (arith, c.power.ensures, pow_mono c.requires.1)
 
 pub overflow_sub-result-2 : goal.overflow_sub-result-2
 overflow_sub-result-2 c =

@@ -1,7 +1,6 @@
 -- Between the first and the last time, in order.
-use Rattle.ruler.proofs.RulerMade.{made_is}
 use Rattle.ruler.proofs.Shares.{between_both}
 use Rattle.ruler.proofs.Ruler.spans.Goals as goal
 
 pub returns : goal.returns
-returns c = rw (made_is c.args.self c.requires) (between_both c.args.self.numbers c.args.start c.args.end)
+returns c = rw (c.args.self.first_is, c.args.self.last_is) (between_both c.args.self.numbers c.args.start c.args.end)

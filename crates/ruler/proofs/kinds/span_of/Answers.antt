@@ -1,6 +1,5 @@
 -- By its kind: lo is below hi.
 use native.Mathlib.Omega.{arith}
-use Rattle.ruler.specs.Ruler.{span_of}
 use Rattle.ruler.proofs.Fair.{bits_of, spread_of}
 use Rattle.ruler.proofs.kinds.span_of.Goals as goal
 
@@ -9,11 +8,3 @@ power-requires c = omega (arith, (bits_of c.in-Bits.is c.requires).wide)
 
 pub overflow_sub-result : goal.overflow_sub-result
 overflow_sub-result c = omega (arith, (spread_of c.in-Spread.is c.requires).apart)
-
-pub returns-in-Bits : goal.returns-in-Bits
-unfolding span_of
-returns-in-Bits c = rw (c.in-Bits.is, c.power.ensures)
-
-pub returns-in-Spread : goal.returns-in-Spread
-unfolding span_of
-returns-in-Spread c = rw c.in-Spread.is

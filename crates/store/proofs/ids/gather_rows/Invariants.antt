@@ -2,15 +2,12 @@
 use mathlib.Core.Path.{◌≡◌}
 use mathlib.Core.List.{◌++◌}
 use Prim.Native.Nat.{◌+◌, ◌-◌, ◌≤◌}
-use lib.ListN.{length, take}
+use lib.ListN.{take}
 use Rattle.layout.specs.Words.{rows}
 use Rattle.store.specs.Ids.{of_class}
 use Rattle.store.proofs.ids.gather_rows.Given as goal
 
 abbrev pub invariant-loop-k : goal.invariant-loop-k
 invariant-loop-k l =
-    (l.found ≤ l.had + (l.k - l.from)) × (l.from ≤ l.k) × (l.k ≤ l.to) × (length l.room ≡ length l.initial.room)
+    (l.found ≤ l.had + (l.k - l.from))
     × (take l.had l.initial.room ++ of_class l.classes l.class (rows l.part) l.from ≡ take l.found l.room ++ of_class l.classes l.class (rows l.part) l.k)
-
-abbrev pub decreases-loop-k : goal.decreases-loop-k
-decreases-loop-k l = l.to - l.k

@@ -1,18 +1,15 @@
 -- Some word so far is the id, or one that is left.
-use mathlib.Core.Path.{refl, sym, ◌∙◌}
+use mathlib.Core.Path.{sym, ◌∙◌}
 use native.Mathlib.Omega.{arith}
 use Rattle.store.proofs.Marks.{among_next, among_end}
 use Rattle.store.proofs.ids.has.Goals as goal
 
-pub loop-i-init : goal.loop-i-init
-loop-i-init c = refl
-
-pub loop-i-preserved : goal.loop-i-preserved
-loop-i-preserved c =
+pub loop-word-preserved : goal.loop-word-preserved
+loop-word-preserved c =
     let args = c.args in
-    among_next c.loop-i.found args.id args.words.now c.loop-i.i (omega arith) ∙ c.loop-i.invariant
+    among_next c.loop-word.found args.id args.words.now c.loop-word.word-index (omega arith) ∙ c.loop-word.invariant
 
 pub returns : goal.returns
 returns c =
     let args = c.args in
-    sym (among_end c.loop-i.found args.id args.words.now c.loop-i.i (omega arith)) ∙ c.loop-i.invariant
+    sym (among_end c.loop-word.found args.id args.words.now c.loop-word.word-index (omega arith)) ∙ c.loop-word.invariant

@@ -1,13 +1,9 @@
 -- Some word so far is the id, or one that is left.
 use mathlib.Core.Path.{◌≡◌}
 use mathlib.Core.Bool.{◌||◌}
-use Prim.Native.Nat.{◌-◌}
-use lib.ListN.{length, drop}
+use lib.ListN.{drop}
 use Rattle.store.specs.Ids.{among}
 use Rattle.store.proofs.ids.has.Given as goal
 
-abbrev pub invariant-loop-i : goal.invariant-loop-i
-invariant-loop-i l = (l.found || among l.id (drop l.i l.words)) ≡ among l.id l.words
-
-abbrev pub decreases-loop-i : goal.decreases-loop-i
-decreases-loop-i l = length l.words - l.i
+abbrev pub invariant-loop-word : goal.invariant-loop-word
+invariant-loop-word l = (l.found || among l.id (drop l.word-index l.words)) ≡ among l.id l.words

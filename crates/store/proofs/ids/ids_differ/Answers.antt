@@ -1,11 +1,11 @@
 -- In each class before this one the ids differ.
-use mathlib.Core.Path.{refl, sym, ap, ◌∙◌}
+use mathlib.Core.Path.{sym, ap, ◌∙◌}
 use native.Mathlib.Omega.{arith}
 use Rattle.layout.specs.Words.{rows}
 use Rattle.store.specs.Entries.{ids}
 use Rattle.store.specs.Ids.{climbs, ids_differ}
 use Rattle.store.proofs.Differing.{every_id, climbs-differ}
-use Rattle.store.proofs.Classes.{class_more, class_stop, classes_end}
+use Rattle.store.proofs.Classes.{class_stop, classes_end}
 use Rattle.store.proofs.ids.ids_differ.Goals as goal
 
 pub returns-then-climb : goal.returns-then-climb
@@ -14,25 +14,10 @@ returns-then-climb c =
     let part = c.args.part.now in
     sym (climbs-differ (ids (rows part)) (ap climbs (sym (every_id part)) ∙ sym c.climb.ensures ∙ c.if-climb.true))
 
-pub loop-class-init : goal.loop-class-init
-loop-class-init c = (refl, λ k h. absurd (omega arith))
-
-pub slice_bounds-class_differs-end : goal.slice_bounds-class_differs-end
-slice_bounds-class_differs-end c = sym c.loop-class.invariant.0
-
-pub class_differs-requires : goal.class_differs-requires
-class_differs-requires c = (omega arith, c.loop-class.invariant.0)
-
 pub returns-then-not-class_differs : goal.returns-then-not-class_differs
 returns-then-not-class_differs c =
     let part = c.args.part.now in
     sym (class_stop _ (rows part) _ (sym c.class_differs.ensures ∙ c.if-not-class_differs.true))
-
-pub loop-class-preserved : goal.loop-class-preserved
-loop-class-preserved c =
-    let part = c.args.part.now in
-    let here = sym c.class_differs.ensures ∙ c.if-not-class_differs.false in
-    (omega (arith, c.loop-class.invariant.0), class_more _ (rows part) _ c.loop-class.invariant.1 here)
 
 pub returns : goal.returns
 returns c = sym (classes_end _ (rows c.args.part.now) (omega arith) (λ k h. c.loop-class.invariant.1 k (omega arith)))

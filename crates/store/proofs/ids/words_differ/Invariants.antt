@@ -1,11 +1,6 @@
 -- The words before this one differ, and each of them set its mark.
-use Prim.Native.Nat.{◌-◌}
-use lib.ListN.{length}
 use Rattle.store.proofs.Marks.{Told}
 use Rattle.store.proofs.ids.words_differ.Given as goal
 
 abbrev pub invariant-loop-i : goal.invariant-loop-i
 invariant-loop-i l = Told l.classes l.words l.marks l.i
-
-abbrev pub decreases-loop-i : goal.decreases-loop-i
-decreases-loop-i l = length l.words - l.i

@@ -1,13 +1,7 @@
 -- What the test says makes the part one of the arena.
 use mathlib.Core.Path.{sym, ◌∙◌}
 use Rattle.store.specs.Parts.{part_in}
-use Rattle.store.proofs.Parts.{inside-there}
 use Rattle.store.proofs.part.part_between.Goals as goal
-
-pub part_there-requires : goal.part_there-requires
-part_there-requires c =
-    let a = c.args in
-    inside-there a.dir.now a.arena.now a.from a.to c.requires (sym c.part_inside.ensures ∙ c.if-part_inside.true)
 
 pub returns-then-part_inside : goal.returns-then-part_inside
 unfolding part_in

@@ -1,34 +1,26 @@
 -- The fewer of the levels at which a partition can begin with the first cell and of those at which it is no longer than the trip.
-use mathlib.Core.Path.{sym}
-use mathlib.Core.Logic.{inl, inr}
-use Prim.Native.Nat.{◌≤◌}
-use lib.Count.{trailing_le}
+use mathlib.Core.Path.{◌≡◌, sym}
+use mathlib.Core.Logic.{◌⊎◌, inl, inr}
+use Prim.Native.Nat.{ℕ, ◌+◌, ◌^◌, min, ◌≤◌, ◌<◌}
+use native.Mathlib.Decide.{dec_le}
 use lib.Pow.{pow_mono}
 use Rattle.store.proofs.Homes.{home_level_is}
 use native.Mathlib.Omega.{arith}
 use Rattle.store.proofs.places.home_level.Goals as goal
 
-pub levels_begun-begun-requires : goal.levels_begun-begun-requires
-levels_begun-begun-requires c = (c.requires.0, omega arith)
-
-pub overflow_sub-result : goal.overflow_sub-result
-overflow_sub-result c =
-    omega (arith, c.levels_begun-begun.ensures, c.level.ensures, trailing_le c.args.a.0 c.args.a.1)
-
-pub returns-then-begun-spanned : goal.returns-then-begun-spanned
-returns-then-begun-spanned c =
-    let k = c.levels_begun-begun in
-    let spans = c.levels_spanned-spanned.ensures in
-    let less : k.result ≤ c.levels_spanned-spanned.result = omega arith in
-    rw c.level.ensures (sym (home_level_is c.args.a.0 c.args.a.1 c.args.b.1 k.result c.requires.2 (omega (arith, k.ensures))
-    (omega (arith, spans.0, pow_mono less)) (inl (sym k.ensures))))
-
-pub overflow_sub-result-2 : goal.overflow_sub-result-2
-overflow_sub-result-2 c =
-    omega (arith, c.levels_begun-begun.ensures, c.level-2.ensures, trailing_le c.args.a.0 c.args.a.1)
+fewer : (begun spanned trailing cells : ℕ) → begun ≡ trailing → cells < 2 ^ (spanned + 1) → (trailing ≡ min begun spanned) ⊎ (cells < 2 ^ (min begun spanned + 1))
+fewer begun spanned trailing cells e h = elim (dec_le begun spanned) [
+  | yes l ↦ inl (omega arith)
+  | no l ↦ let s : min begun spanned ≡ spanned = omega arith in inr (rw s h)
+]
 
 pub returns : goal.returns
 returns c =
-    let k = c.levels_spanned-spanned in
-    rw c.level-2.ensures (sym (home_level_is c.args.a.0 c.args.a.1 c.args.b.1 k.result c.requires.2
-    (omega (arith, c.levels_begun-begun.ensures)) k.ensures.0 (inr k.ensures.1)))
+    let a = c.args.a in
+    let b = c.args.b in
+    let begun = c.levels_begun-begun in
+    let spanned = c.levels_spanned-spanned in
+    let k : ℕ = min begun.result spanned.result in
+    let less : k ≤ spanned.result = omega arith in
+    rw (c.level.ensures, c.min.ensures) (sym (home_level_is a.0 a.1 b.1 k c.requires.2 (omega (arith, begun.ensures))
+    (omega (arith, spanned.ensures.0, pow_mono less)) (fewer begun.result spanned.result _ _ begun.ensures spanned.ensures.1)))

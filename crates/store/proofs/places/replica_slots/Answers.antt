@@ -7,9 +7,9 @@ use Rattle.store.proofs.places.replica_slots.Goals as goal
 pub slots_of-requires : goal.slots_of-requires
 slots_of-requires c =
     let r = c.args.ruler in
-    let fits = c.requires.fits.0 in
+    let fits = c.requires.0 in
     rw (c.bottom_cell-last.ensures, c.bottom_cell-first.ensures)
-    (deep-ruler r c.requires.made, refl, first_cell_lem r c.requires.made c.args.t fits, last_cell_lem r c.requires.made c.args.t fits, c.requires.fits.1)
+    (deep-ruler r, refl, first_cell_lem r c.args.t fits, last_cell_lem r c.args.t fits, c.requires.1)
 
 pub returns : goal.returns
 unfolding slots_of_trip

@@ -9,8 +9,5 @@ use Rattle.store.proofs.places.trip_slots.Goals as goal
 pub returns-in-Originals : goal.returns-in-Originals
 returns-in-Originals c =
     let half = c.in-Originals.is in
-    let home = one_home _ (fair_ruler c.args.ruler c.requires.made) c.args.t c.requires.fits.0 in
-    rw (half, home, c.home.ensures) (refl, set_first _ _ (omega (arith, c.requires.fits.1)))
-
-pub returns-in-Replicas : goal.returns-in-Replicas
-returns-in-Replicas c = let half = c.in-Replicas.is in rw half c.replica_slots.ensures
+    let home = one_home _ (fair_ruler c.args.ruler) c.args.t c.requires.0 in
+    rw (half, home, c.home.ensures) (refl, set_first _ _ (omega (arith, c.requires.1)))

@@ -1,7 +1,27 @@
 -- The four tests of `half_ok`, each by its function.
+use mathlib.Core.Path.{refl}
+use mathlib.Core.Bool.{and-false}
+use lib.ListN.{length, length-drop}
+use lib.Seq.{take-length}
+use borrow.Author.Tests.{lt-leb, le-leb}
 use Rattle.verify.specs.Local.{half_ok}
+use Rattle.verify.proofs.SlotsCut.{up_rises}
 use Rattle.verify.proofs.half.half_ok.Goals as goal
+
+pub returns-then-arena-used : goal.returns-then-arena-used
+unfolding half_ok
+returns-then-arena-used c =
+    rw (← c.words_of-used.ensures, lt-leb c.words_of-used.result (length c.args.arena.now) c.if-arena-used.true) (rw and-false (rw and-false refl))
 
 pub returns : goal.returns
 unfolding half_ok
-returns c = rw (c.rises-up.ensures, c.blank_from-tail.ensures, c.words_of-used.ensures)
+returns c =
+    let there = le-leb c.words_of-used.result (length c.args.arena.now) c.if-arena-used.false in
+    rw (
+      ← c.words_of-used.ensures,
+      there,
+      up_rises c.args.dir.now _ c.requires c.rises.ensures,
+      c.is_blank.ensures,
+      ← length-drop c.words_of-used.result c.args.arena.now,
+      take-length,
+    )

@@ -14,16 +14,15 @@ returns-then-from-to c =
 
 pub frame_of-frame-requires : goal.frame_of-frame-requires
 frame_of-frame-requires c =
-    rw c.bottom.ensures (deep-ruler c.args.ruler c.requires.made, c.requires.partition_bound.0, c.requires.partition_bound.1)
+    rw c.bottom.ensures (deep-ruler c.args.ruler, c.requires.partition_bound.0, c.requires.partition_bound.1)
 
-pub in_row-requires : goal.in_row-requires
-in_row-requires c =
-    let a = c.args in
+pub in_row-requires-clause-frame_at : goal.in_row-requires-clause-frame_at
+in_row-requires-clause-frame_at c = rw (c.frame_of-frame.ensures, c.bottom.ensures) (frame_at _ _ _ _ _)
+
+pub in_row-requires-clause-counted : goal.in_row-requires-clause-counted
+in_row-requires-clause-counted c =
     let there = c.requires.part_there in
-    let n = part_count a.dir.now a.arena.now a.k there in
-    let some = c.if-from-to.false in
-    rw (c.frame_of-frame.ensures, c.bottom.ensures, c.part_there.ensures)
-    record { made = c.requires.made; frame_at = frame_at _ _ _ _ _; counted = (sym n, omega (arith, there.rises, some)) }
+    rw c.part_there.ensures (sym (part_count c.args.dir.now c.args.arena.now c.args.k there), omega (arith, there.rises, c.if-from-to.false))
 
 pub returns : goal.returns
 unfolding slot_at
@@ -37,4 +36,4 @@ returns c =
       c.frame_of-frame.ensures,
       c.bottom.ensures,
     )
-    (slot_framed _ (fair_ruler c.args.ruler c.requires.made) c.args.half c.args.k p.0 p.1 at.0 at.1 at.2 _)
+    (slot_framed _ (fair_ruler c.args.ruler) c.args.half c.args.k p.0 p.1 at.0 at.1 at.2 _)

@@ -1,15 +1,11 @@
 -- Every slot of the levels above `level` passes.
 use mathlib.Core.Path.{◌≡◌}
 use mathlib.Core.Bool.{true}
-use Prim.Native.Nat.{◌+◌, ◌-◌, ◌≤◌}
-use Rattle.ruler.specs.Ruler.{scale}
+use Rattle.ruler.specs.Made.{scale}
 use Rattle.verify.specs.Passing.{below}
 use Rattle.verify.specs.Local.{first_slot}
 use Rattle.verify.proofs.SlotLevels.{passes}
 use Rattle.verify.proofs.half.slots_ok.Given as goal
 
 abbrev pub invariant-loop-level : goal.invariant-loop-level
-invariant-loop-level l = (l.level ≤ l.m + 1) × (below (passes (scale l.ruler) l.half l.dir l.arena) (first_slot l.level) ≡ true)
-
-abbrev pub decreases-loop-level : goal.decreases-loop-level
-decreases-loop-level l = l.m + 1 - l.level
+invariant-loop-level l = below (passes (scale l.ruler) l.half l.dir l.arena) (first_slot l.level) ≡ true

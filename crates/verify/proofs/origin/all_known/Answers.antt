@@ -1,7 +1,7 @@
 -- The trips left are all known exactly if all of them are.
-use mathlib.Core.Path.{◌≡◌, refl, sym, ◌∙◌}
+use mathlib.Core.Path.{◌≡◌, sym, ◌∙◌}
 use mathlib.Core.Bool.{true, false}
-use Rattle.ruler.specs.Ruler.{scale}
+use Rattle.ruler.specs.Made.{scale}
 use Rattle.layout.specs.Words.{trip_at}
 use Rattle.layout.specs.Refusals.{fits}
 use Rattle.store.specs.Ordered.{key_place}
@@ -10,24 +10,12 @@ use Rattle.verify.proofs.LoopTurns.{each_row, each_more, each_stop, each_end}
 use native.Mathlib.Omega.{arith}
 use Rattle.verify.proofs.origin.all_known.Goals as goal
 
-pub loop-k-init : goal.loop-k-init
-loop-k-init c = refl
-
-pub key_at-key-requires : goal.key_at-key-requires
-key_at-key-requires c = (omega arith, omega arith)
-
-pub is_known-requires : goal.is_known-requires
+pub is_known-requires-clause-trip_fits : goal.is_known-requires-clause-trip_fits
 unfolding key_place
-is_known-requires c =
-    let k = c.loop-k.k in
+is_known-requires-clause-trip_fits c =
     let read = c.trip_at-t.ensures in
-    let fit = each_row c.args.part.now (fits (scale c.args.ruler)) c.requires.rows_fit k (omega arith) in
-    record {
-      made = c.requires.made;
-      dir_len = c.requires.dir_len;
-      originals_passed = c.requires.originals_passed;
-      trip_fits = (rw read fit, rw read c.key_at-key.ensures);
-    }
+    let fit = each_row c.args.part.now (fits (scale c.args.ruler)) c.requires.rows_fit c.loop-k.k (omega arith) in
+    (rw read fit, rw read c.key_at-key.ensures)
 
 pub returns-then-not-is_known : goal.returns-then-not-is_known
 returns-then-not-is_known c =

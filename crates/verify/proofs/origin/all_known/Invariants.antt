@@ -1,8 +1,7 @@
 -- The trips left are all known exactly if all of them are.
 use mathlib.Core.Path.{◌≡◌}
-use Prim.Native.Nat.{◌-◌}
 use lib.ListN.{drop}
-use Rattle.ruler.specs.Ruler.{scale}
+use Rattle.ruler.specs.Made.{scale}
 use Rattle.layout.specs.Words.{rows}
 use Rattle.verify.specs.Passing.{each}
 use Rattle.verify.specs.Local.{is_known}
@@ -12,6 +11,3 @@ abbrev pub invariant-loop-k : goal.invariant-loop-k
 invariant-loop-k l =
     let p = is_known (scale l.ruler) l.dir l.originals in
     each p (drop l.k (rows l.part)) ≡ each p (rows l.part)
-
-abbrev pub decreases-loop-k : goal.decreases-loop-k
-decreases-loop-k l = l.n - l.k

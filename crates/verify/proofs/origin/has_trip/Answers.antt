@@ -1,12 +1,9 @@
 -- The places where the trip may stand are halved until one is left.
 use mathlib.Core.Path.{sym, ◌∙◌}
-use Prim.Native.Nat.{◌+◌, ◌/◌, ◌<◌}
-use lib.ListN.{length}
-use Rattle.layout.specs.Words.{entry_words}
+use Rattle.lists.proofs.Upto.{length-up_to}
 use Rattle.store.specs.Ordered.{key_place}
 use Rattle.store.proofs.Classes.{narrow_start}
-use Rattle.lists.proofs.Upto.{length-up_to}
-use Rattle.verify.proofs.Known.{found_nowhere, found_step, found_there}
+use Rattle.verify.proofs.Known.{middle_in, found_nowhere, found_step, found_there}
 use native.Mathlib.Omega.{arith}
 use Rattle.verify.proofs.origin.has_trip.Goals as goal
 
@@ -18,19 +15,13 @@ pub loop-width-init : goal.loop-width-init
 loop-width-init c = narrow_start _ _ c.args.n (omega arith) (length-up_to _ _ ∙ sym c.requires.counted)
 
 pub overflow_add-low : goal.overflow_add-low
-overflow_add-low c =
-    let middle : c.loop-width.low + c.loop-width.width / 2 < length c.args.part.now / entry_words = let inside = c.loop-width.invariant.inside in omega (arith, rw length-up_to at inside) in
-    omega (arith, middle)
+overflow_add-low c = omega (arith, middle_in _ _ _ _ c.loop-width.invariant)
 
 pub key_at-there-requires : goal.key_at-there-requires
-key_at-there-requires c =
-    let middle : c.loop-width.low + c.loop-width.width / 2 < length c.args.part.now / entry_words = let inside = c.loop-width.invariant.inside in omega (arith, rw length-up_to at inside) in
-    (middle, omega arith)
+key_at-there-requires c = (middle_in _ _ _ _ c.loop-width.invariant, omega arith)
 
 pub overflow_add-low-in-loop-width : goal.overflow_add-low-in-loop-width
-overflow_add-low-in-loop-width c =
-    let middle : c.loop-width.low + c.loop-width.width / 2 < length c.args.part.now / entry_words = let inside = c.loop-width.invariant.inside in omega (arith, rw length-up_to at inside) in
-    omega (arith, middle)
+overflow_add-low-in-loop-width c = omega (arith, middle_in _ _ _ _ c.loop-width.invariant)
 
 pub loop-width-preserved : goal.loop-width-preserved
 unfolding key_place
@@ -40,7 +31,7 @@ loop-width-preserved c =
     k.low k.width c.key_at-there.result c.narrowed-low.result k.invariant (omega arith) c.key_at-there.ensures c.narrowed-low.ensures
 
 pub trip_at-requires : goal.trip_at-requires
-trip_at-requires c = let w = c.loop-width.invariant in let inside = w.inside in omega (arith, w.some, rw length-up_to at inside)
+trip_at-requires c = omega (arith, middle_in _ _ _ _ c.loop-width.invariant)
 
 pub returns : goal.returns
 returns c =

@@ -1,23 +1,15 @@
 -- The part between the slot's word and the next, which tell how many entries it has.
-use mathlib.Core.Path.{sym, ap, ◌∙◌}
-use mathlib.Core.List.{List}
-use Prim.Native.Nat.{ℕ, ◌/◌}
-use lib.ListN.{length}
-use Rattle.layout.specs.Words.{entry_words}
+use mathlib.Core.Path.{sym}
 use Rattle.store.proofs.Parts.{part_entries}
 use Rattle.verify.specs.Local.{slot_at}
 use Rattle.verify.proofs.origin.slot_has.Goals as goal
 
-pub has_trip-requires : goal.has_trip-requires
+pub has_trip-requires-clause-counted : goal.has_trip-requires-clause-counted
+has_trip-requires-clause-counted c = rw c.part_there.ensures (sym (part_entries c.args.dir.now c.args.originals.now c.args.k _ c.requires.part_there))
+
+pub has_trip-requires-clause-in_order : goal.has_trip-requires-clause-in_order
 unfolding slot_at
-has_trip-requires c =
-    let n = part_entries c.args.dir.now c.args.originals.now c.args.k _ c.requires.part_there in
-    let part = c.part_there.ensures in
-    record {
-      counted = sym n ∙ ap (λ (l : List ℕ). length l / entry_words) (sym part);
-      keyed = c.requires.keyed;
-      in_order = rw part c.requires.in_order;
-    }
+has_trip-requires-clause-in_order c = rw c.part_there.ensures c.requires.in_order
 
 pub returns : goal.returns
 unfolding slot_at

@@ -1,11 +1,9 @@
 -- Each case of `ends_of`.
 use mathlib.Core.Path.{◌≡◌}
-use mathlib.Core.Bool.{true, false, ◌||◌}
-use Prim.Native.Nat.{◌%◌, ◌<◌}
-use lib.Dec.{eqb}
+use mathlib.Core.Bool.{true, false}
 use Rattle.layout.specs.Stored.{last_cell}
 use Rattle.verify.specs.Frames.{ends_of}
-use Rattle.verify.proofs.Framed.{parent_lt, cells_in, first_of_two_lem}
+use Rattle.verify.proofs.Framed.{cells_in}
 use native.Mathlib.Omega.{arith}
 use Rattle.verify.proofs.partition.ends_of.Goals as goal
 
@@ -27,30 +25,9 @@ returns-then-level-parity c =
     let last = rw (c.parity.ensures, c.level.ensures) at c.if-level-parity.true in
     rw (aft, last, c.at.ensures, c.power.ensures, c.next-after.ensures, c.last_at-last.ensures)
 
-pub above-requires : goal.above-requires
-above-requires c =
-    let tested : eqb c.args.partition.0 0 || eqb (c.args.partition.1 % 2) 1 ≡ false = rw (c.parity.ensures, c.level.ensures) at c.if-level-parity.false in
-    let first : (0 < c.args.partition.0) × (c.args.partition.1 % 2 ≡ 0) = first_of_two_lem c.args.partition.0 c.args.partition.1 tested in
-    first.0
-
-pub last_at-requires : goal.last_at-requires
-last_at-requires c =
-    let tested : eqb c.args.partition.0 0 || eqb (c.args.partition.1 % 2) 1 ≡ false = rw (c.parity.ensures, c.level.ensures) at c.if-level-parity.false in
-    let first : (0 < c.args.partition.0) × (c.args.partition.1 % 2 ≡ 0) = first_of_two_lem c.args.partition.0 c.args.partition.1 tested in
-    let p = c.args.partition in
-    let l = first.0 in
-    rw c.above.ensures (omega (arith, c.requires.1), c.requires.0, parent_lt p.0 p.1 l c.requires.2)
-
 pub returns : goal.returns
 unfolding ends_of last_cell
 returns c =
-    let tested : eqb c.args.partition.0 0 || eqb (c.args.partition.1 % 2) 1 ≡ false = rw (c.parity.ensures, c.level.ensures) at c.if-level-parity.false in
     let aft : c.args.aft ≡ true = c.if-not-aft.false in
-    rw (
-      aft,
-      tested,
-      c.last_at.ensures,
-      c.above.ensures,
-      c.next-after.ensures,
-      c.last_at-last.ensures,
-    )
+    let inner = rw (c.parity.ensures, c.level.ensures) at c.if-level-parity.false in
+    rw (aft, inner, c.last_at.ensures, c.above.ensures, c.next-after.ensures, c.last_at-last.ensures)

@@ -1,12 +1,13 @@
 -- Each case of `starts_of`. A partition with an odd number has a parent.
 use mathlib.Core.Path.{◌≡◌}
+use mathlib.Core.Logic.{◌≢◌}
 use mathlib.Core.Bool.{true, false}
-use Prim.Native.Nat.{◌-◌, ◌/◌, ◌%◌, ◌≤◌, ◌<◌}
+use Prim.Native.Nat.{◌-◌, ◌/◌, ◌%◌, ◌≤◌}
 use lib.Dec.{eqb}
 use borrow.Author.Tests.{eq-eqb, ne_eqb}
 use Rattle.layout.specs.Stored.{first_cell}
 use Rattle.verify.specs.Frames.{starts_of}
-use Rattle.verify.proofs.Framed.{parent_lt, cells_in, odd_below}
+use Rattle.verify.proofs.Framed.{parent_in, cells_in}
 use native.Mathlib.Omega.{arith}
 use Rattle.verify.proofs.partition.starts_of.Goals as goal
 
@@ -22,35 +23,18 @@ returns-then-parity-eq0 c =
     let even : eqb (i % 2) 0 ≡ true = eq-eqb (i % 2) 0 (omega (arith, c.parity.ensures)) in
     rw (c.in-Replicas.is, even, c.at.ensures, c.first_at-first.ensures)
 
-pub above-requires : goal.above-requires
-above-requires c =
-    let some_level : 0 < c.args.partition.0 =
-    let p = c.args.partition in
-    let odd : p.1 % 2 ≡ 1 = omega (arith, c.parity.ensures, c.if-parity-eq0.false) in
-    odd_below p.0 p.1 c.requires.2 odd in
-    some_level
-
 pub first_at-requires : goal.first_at-requires
 first_at-requires c =
-    let some_level : 0 < c.args.partition.0 =
     let p = c.args.partition in
-    let odd : p.1 % 2 ≡ 1 = omega (arith, c.parity.ensures, c.if-parity-eq0.false) in
-    odd_below p.0 p.1 c.requires.2 odd in
-    let p = c.args.partition in
-    let l = some_level in
-    rw c.above.ensures (omega (arith, c.requires.1), c.requires.0, parent_lt p.0 p.1 l c.requires.2)
+    let odd : p.1 % 2 ≢ 0 = omega (arith, c.parity.ensures, c.if-parity-eq0.false) in
+    rw c.above.ensures (omega (arith, c.requires.1), c.requires.0, parent_in p.0 p.1 c.requires.2 odd)
 
 pub next-requires-in-Replicas : goal.next-requires-in-Replicas
 next-requires-in-Replicas c =
-    let some_level : 0 < c.args.partition.0 =
     let p = c.args.partition in
-    let odd : p.1 % 2 ≡ 1 = omega (arith, c.parity.ensures, c.if-parity-eq0.false) in
-    odd_below p.0 p.1 c.requires.2 odd in
-    let p = c.args.partition in
-    let l = some_level in
+    let odd : p.1 % 2 ≢ 0 = omega (arith, c.parity.ensures, c.if-parity-eq0.false) in
     let up : p.0 - 1 ≤ c.args.m = omega (arith, c.requires.1) in
-    rw (c.first_at.ensures, c.above.ensures)
-    (c.requires.0, omega (arith, cells_in c.args.m (p.0 - 1) (p.1 / 2) up (parent_lt p.0 p.1 l c.requires.2)))
+    rw (c.first_at.ensures, c.above.ensures) (c.requires.0, omega (arith, cells_in c.args.m (p.0 - 1) (p.1 / 2) up (parent_in p.0 p.1 c.requires.2 odd)))
 
 pub returns-in-Originals : goal.returns-in-Originals
 unfolding starts_of first_cell

@@ -9,14 +9,11 @@ use native.Mathlib.Omega.{arith}
 use Rattle.view.proofs.counts.level_rows.Goals as goal
 
 pub loop-level-init : goal.loop-level-init
-loop-level-init c = (omega arith, up_to-none _ _)
-
-pub level_row-row-requires : goal.level_row-row-requires
-level_row-row-requires c = c.requires
+loop-level-init c = up_to-none _ _
 
 pub loop-level-preserved : goal.loop-level-preserved
-loop-level-preserved c = (omega arith, up_to-more _ _ _ _ _ [] (omega arith) c.level_row-row.ensures c.loop-level.invariant.1)
+loop-level-preserved c = up_to-more _ _ _ _ _ [] (omega arith) c.level_row.ensures c.loop-level.invariant
 
 pub returns : goal.returns
 unfolding rows_of
-returns c = let e : c.loop-level.level ≡ suc deepest = omega arith in (rw e at c.loop-level.invariant.1) ∙ append-nil _
+returns c = let e : c.loop-level.level ≡ suc deepest = omega arith in (rw e at c.loop-level.invariant) ∙ append-nil _

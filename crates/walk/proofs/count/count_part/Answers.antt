@@ -11,7 +11,7 @@ use Rattle.walk.proofs.count.count_part.Goals as goal
 use Rattle.walk.proofs.count.count_part.Goals.{then-has, else-has}
 
 pub loop-i-init : goal.loop-i-init
-loop-i-init c = (omega arith, sym (ap length (found_none _ _)))
+loop-i-init c = sym (ap length (found_none _ _))
 
 pub overflow_add-count : goal.overflow_add-count
 overflow_add-count c = omega (
@@ -27,9 +27,9 @@ loop-i-preserved c =
     let test = is_sought g.sought g.sure in
     let l = g.part.now in
     elim c.if-has.branch [
-      | then-has w ↦ let e : test (trip_at l i) ≡ true = cc in (omega arith, omega (arith, count_hit test l i e))
-      | else-has w ↦ let e : test (trip_at l i) ≡ false = cc in (omega arith, omega (arith, count_miss test l i e))
+      | then-has w ↦ let e : test (trip_at l i) ≡ true = cc in omega (arith, count_hit test l i e)
+      | else-has w ↦ let e : test (trip_at l i) ≡ false = cc in omega (arith, count_miss test l i e)
     ]
 
 pub returns : goal.returns
-returns c = c.loop-i.invariant.1 ∙ ap length (found_all _ _ _ (omega arith))
+returns c = c.loop-i.invariant ∙ ap length (found_all _ _ _ (omega arith))

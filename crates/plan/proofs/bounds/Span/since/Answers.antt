@@ -1,5 +1,0 @@
--- Field by field, as the definition has it.
-use Rattle.plan.proofs.bounds.Span.since.Goals as goal
-
-pub returns : goal.returns
-returns c = cc
