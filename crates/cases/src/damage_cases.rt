@@ -12,7 +12,7 @@ const ORIGINALS: [u32; 13] = [9, 0, 0, 1, 3, 1, 3, 6, 7, 1, 2, 8, 0];
 
 const REPLICAS: [u32; 9] = [3, 1, 3, 6, 7, 1, 2, 8, 0];
 
-// Whether the check of these words answers this number.
+// The case that the check of these words answers this number.
 fn says(
     rt: &impl Print,
     directory: &[u32],
@@ -22,8 +22,7 @@ fn says(
     name: &[u8],
 ) -> io::Result<()> {
     let words = say::words(directory, originals, replicas);
-    let outcome = verify::check(say::ruler(2, 2), words);
-    say::case(rt, say::is(outcome, number, 0), name)
+    say::checked(rt, say::ruler(2, 2), words, number, name)
 }
 
 // Other originals, beside the directory and the replicas as they should be.
@@ -128,8 +127,7 @@ fn dropped_and_doubled(rt: &impl Print) -> io::Result<()> {
 // The same words on other rulers.
 fn on_ruler(rt: &impl Print, w: u32, m: u32, number: u32, name: &[u8]) -> io::Result<()> {
     let words = say::words(&DIRECTORY, &ORIGINALS, &REPLICAS);
-    let outcome = verify::check(say::ruler(w, m), words);
-    say::case(rt, say::is(outcome, number, 0), name)
+    say::checked(rt, say::ruler(w, m), words, number, name)
 }
 
 fn other_rulers(rt: &impl Print) -> io::Result<()> {

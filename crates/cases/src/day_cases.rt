@@ -1,6 +1,7 @@
 // Days (T-07). Three trips have the same times, [1,2] under w = 2 and m = 2, with an original and a replica each: trip 5 runs on day 0, trip 4 on day 1
 // and trip 7 on day 31. What a check says of days is among the cases of damage.
 use crate::say;
+use ruler::Numbers;
 use std::io;
 use store::words::Words;
 use trip::{Asking, Trip};
@@ -10,18 +11,18 @@ const TABLE: [u32; 12] = [5, 1, 2, 1, 4, 1, 2, 2, 7, 1, 2, 2147483648];
 // The same without trip 7.
 const REST: [u32; 8] = [4, 1, 2, 2, 5, 1, 2, 1];
 
+fn ruler() -> Numbers {
+    say::ruler(2, 2)
+}
+
 // Whether so many trips share a second of [0,3] on a day, and the list of two words, which were 9, is then this one.
 fn lists(words: Words, day: u32, count: u32, list: &[u32; 2]) -> bool {
-    let mut answers = [9u32; 2];
-    let asking = Asking::of(13, 0, 3, day);
-    let answered = ask::ask(say::ruler(2, 2), words, asking, &mut answers);
-    answered == Ok(count) && answers == *list
+    say::lists(ruler(), words, Asking::of(13, 0, 3, day), 9, count, list)
 }
 
 // Whether a question with no word for its answer is refused with this number and this detail.
 fn gets(words: Words, asking: Asking, number: u32, detail: u32) -> bool {
-    let answered = ask::ask(say::ruler(2, 2), words, asking, &mut []);
-    say::is_refused(answered, number, detail)
+    say::unasked(ruler(), words, asking, &[], number, detail)
 }
 
 fn questions(rt: &impl Print, words: Words) -> io::Result<()> {
@@ -36,7 +37,7 @@ fn questions(rt: &impl Print, words: Words) -> io::Result<()> {
     )?;
     let one = gets(words, Asking::of(13, 0, 3, 31), 7, 1);
     let other_day = Asking::of(13, 0, 3, 30);
-    let none = ask::ask(say::ruler(2, 2), words, other_day, &mut []) == Ok(0);
+    let none = ask::ask(ruler(), words, other_day, &mut []) == Ok(0);
     say::case(rt, one & none, b"days: 7 counts the trips of the day")
 }
 
@@ -51,12 +52,9 @@ fn no_such_day(rt: &impl Print, words: Words) -> io::Result<()> {
     say::case(rt, code & off & backward, b"days: 9, 4 and 5 before 17")
 }
 
-// Whether a build is refused and writes nothing. There is no replica's room: 7 would come where another number didn't.
+// Whether a build is refused and writes nothing.
 fn unbuilt(table: &[u32], number: u32, detail: u32) -> bool {
-    let mut d = [7u32; 30];
-    let mut o = [7u32; 8];
-    let outcome = build::build(say::ruler(2, 2), table, &mut d, &mut o, &mut []);
-    say::is(outcome, number, detail) && d == [7; 30] && o == [7; 8]
+    say::unbuilt(ruler(), table, &[7; 30], &[7; 8], number, detail)
 }
 
 fn no_days(rt: &impl Print) -> io::Result<()> {
@@ -70,48 +68,25 @@ fn no_days(rt: &impl Print) -> io::Result<()> {
     say::case(rt, unbuilt(&[5, 1, 2], 2, 0), b"days: a row of three words")
 }
 
-// Whether the words are those of a build of the table.
-fn built(table: &[u32], d: &[u32], o: &[u32], r: &[u32]) -> bool {
-    let ruler = say::ruler(2, 2);
-    say::gives(
-        ruler,
-        table,
-        say::words(d, o, r),
-        &mut [9; 30],
-        &mut [9; 12],
-        &mut [9; 12],
-    )
+// Whether an addition gets this number, and the words are then those of the table.
+fn adds(d: &mut [u32; 30], o: &mut [u32; 12], r: &mut [u32; 12], t: Trip, number: u32) -> bool {
+    say::adds(ruler(), d, o, r, t, number, &TABLE)
 }
 
-// Whether another trip with these times gets this number, and changes nothing.
-fn stays(d: &mut [u32], o: &mut [u32], r: &mut [u32], id: u32, days: u32, number: u32) -> bool {
-    let outcome = edit::add(say::ruler(2, 2), d, o, r, Trip::of(id, 1, 2, days));
-    say::is(outcome, number, 0) & built(&TABLE, d, o, r)
-}
-
-// Trip 7 goes and comes again: the others keep their days, and it has its own.
-fn goes(d: &mut [u32], o: &mut [u32], r: &mut [u32]) -> bool {
-    let removed = edit::remove(say::ruler(2, 2), d, o, r, 7);
-    say::is(removed, 0, 0) & built(&REST, d, o, r)
-}
-
-fn comes(d: &mut [u32], o: &mut [u32], r: &mut [u32]) -> bool {
-    let added = edit::add(say::ruler(2, 2), d, o, r, Trip::of(7, 1, 2, 2147483648));
-    say::is(added, 0, 0) & built(&TABLE, d, o, r)
-}
-
+// Additions that change nothing. Then trip 7 goes and comes again: the others keep their days, and it has its own.
 fn edits(rt: &impl Print) -> io::Result<()> {
     let mut d = [7u32; 30];
     let mut o = [7u32; 12];
     let mut r = [7u32; 12];
-    let _ = build::build(say::ruler(2, 2), &TABLE, &mut d, &mut o, &mut r);
-    let full = stays(&mut d, &mut o, &mut r, 8, 1, 7);
-    let idle = stays(&mut d, &mut o, &mut r, 8, 0, 16);
-    let taken = stays(&mut d, &mut o, &mut r, 5, 0, 6);
+    let _ = build::build(ruler(), &TABLE, &mut d, &mut o, &mut r);
+    let full = adds(&mut d, &mut o, &mut r, Trip::of(8, 1, 2, 1), 7);
+    let idle = adds(&mut d, &mut o, &mut r, Trip::of(8, 1, 2, 0), 16);
+    let taken = adds(&mut d, &mut o, &mut r, Trip::of(5, 1, 2, 0), 6);
     say::case(rt, full & idle & taken, b"days: an addition gets 6, 16, 7")?;
-    let without = goes(&mut d, &mut o, &mut r);
+    let without = say::goes(ruler(), &mut d, &mut o, &mut r, 7, &REST);
     say::case(rt, without, b"days: a removal keeps the others'")?;
-    let with = comes(&mut d, &mut o, &mut r);
+    let again = Trip::of(7, 1, 2, 2147483648);
+    let with = adds(&mut d, &mut o, &mut r, again, 0);
     say::case(rt, with, b"days: an addition brings its own")
 }
 
@@ -119,7 +94,7 @@ fn asked(rt: &impl Print) -> io::Result<()> {
     let mut d = [7u32; 30];
     let mut o = [7u32; 12];
     let mut r = [7u32; 12];
-    let _ = build::build(say::ruler(2, 2), &TABLE, &mut d, &mut o, &mut r);
+    let _ = build::build(ruler(), &TABLE, &mut d, &mut o, &mut r);
     let words = say::words(&d, &o, &r);
     questions(rt, words)?;
     no_such_day(rt, words)

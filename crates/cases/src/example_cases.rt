@@ -8,10 +8,8 @@ use trip::Asking;
 
 // Two questions to the four trips, in a list of four words. The list has the id first, and after it the words that it had.
 fn lists_one(words: Words, code: u32, start: u32, end: u32, id: u32) -> bool {
-    let mut answers = [5u32; 4];
     let asking = Asking::of(code, start, end, 0);
-    let answered = ask::ask(say::ruler(6, 4), words, asking, &mut answers);
-    answered == Ok(1) && answers == [id, 5, 5, 5]
+    say::lists(say::ruler(6, 4), words, asking, 5, 1, &[id, 5, 5, 5])
 }
 
 // "CONTAINED_BY [1,62]: 9. FINISHES [30,38]: 7."
@@ -26,17 +24,12 @@ fn questions(rt: &impl Print, words: Words) -> io::Result<()> {
 
 // "Census: level 0 is 1,0,0,0; level 3 is 0,0,1,1; level 4 is 1,2,1,0; others zero."
 fn census(rt: &impl Print, words: Words) -> io::Result<()> {
-    let outcome = view::census_outcome(say::ruler(6, 4), words);
-    let rows = view::census(say::ruler(6, 4), words);
     let mut right = [[0; 4]; 11];
     right[0] = [1, 0, 0, 0];
     right[3] = [0, 0, 1, 1];
     right[4] = [1, 2, 1, 0];
-    say::case(
-        rt,
-        say::is(outcome, 0, 0) && rows == right,
-        b"census of the four trips",
-    )
+    let same = say::counts(say::ruler(6, 4), words, right);
+    say::case(rt, same, b"census of the four trips")
 }
 
 // "Ruler w = 6, m = 4; trips 7 [21,38], 3 [20,20], 9 [0,63], 4 [39,40]."
@@ -60,45 +53,31 @@ fn four_trips(rt: &impl Print) -> io::Result<()> {
 
 // "w = 1, m = 1, trip 5 [0,0]: originals half 0,0,0,1,1,1,1; replicas half all 0."
 fn one_second(rt: &impl Print) -> io::Result<()> {
-    let right = say::gives(
+    let right = say::built(
         say::ruler(1, 1),
         &[5, 0, 0, EVERY_DAY],
-        say::words(
-            &[0, 0, 0, 1, 1, 1, 1, 0, 0, 0, 0, 0, 0, 0],
-            &[5, 0, 0, EVERY_DAY, 0],
-            &[0, 0],
-        ),
-        &mut [7; 14],
-        &mut [7; 5],
-        &mut [7; 2],
+        &[0, 0, 0, 1, 1, 1, 1, 0, 0, 0, 0, 0, 0, 0],
+        &[5, 0, 0, EVERY_DAY, 0],
+        &[0, 0],
     );
     say::case(rt, right, b"w 1 m 1, trip 5 [0,0]")
 }
 
 // "w = 1, m = 0, trip 5 [0,1]: directory 0,1,1,0,0,0."
 fn one_level(rt: &impl Print) -> io::Result<()> {
-    let right = say::gives(
+    let right = say::built(
         say::ruler(1, 0),
         &[5, 0, 1, EVERY_DAY],
-        say::words(&[0, 1, 1, 0, 0, 0], &[5, 0, 1, EVERY_DAY], &[0, 0, 0]),
-        &mut [7; 6],
-        &mut [7; 4],
-        &mut [7; 3],
+        &[0, 1, 1, 0, 0, 0],
+        &[5, 0, 1, EVERY_DAY],
+        &[0, 0, 0],
     );
     say::case(rt, right, b"w 1 m 0, trip 5 [0,1]")
 }
 
 // "Empty table: all words 0, accepted even with empty arenas."
 fn empty_table(rt: &impl Print) -> io::Result<()> {
-    let none: [u32; 0] = [];
-    let right = say::gives(
-        say::ruler(6, 4),
-        &none,
-        say::words(&[0; 126], &none, &none),
-        &mut [7; 126],
-        &mut [],
-        &mut [],
-    );
+    let right = say::built(say::ruler(6, 4), &[], &[0; 126], &[], &[]);
     say::case(rt, right, b"an empty table")
 }
 

@@ -44,25 +44,18 @@ fn places(rt: &impl Print, words: Words) -> io::Result<()> {
 }
 
 fn census(rt: &impl Print, words: Words) -> io::Result<()> {
-    let outcome = view::census_outcome(from_40_to_60(), words);
-    let rows = view::census(from_40_to_60(), words);
     let mut right = [[0; 4]; 11];
     right[0] = [1, 0, 0, 0];
     right[1] = [0, 0, 1, 0];
     right[2] = [0, 0, 0, 1];
     right[3] = [2, 1, 0, 0];
-    say::case(
-        rt,
-        say::is(outcome, 0, 0) && rows == right,
-        b"spread: census",
-    )
+    let same = say::counts(from_40_to_60(), words, right);
+    say::case(rt, same, b"spread: census")
 }
 
 // Whether so many trips stand in a relationship to a window, and the list of four words, which were 5, is then this one.
 fn lists(ruler: Numbers, words: Words, asking: Asking, count: u32, list: &[u32; 4]) -> bool {
-    let mut answers = [5u32; 4];
-    let answered = ask::ask(ruler, words, asking, &mut answers);
-    answered == Ok(count) && answers == *list
+    say::lists(ruler, words, asking, 5, count, list)
 }
 
 // Trip 8 shares cell 1 with [43,43], and [57,57] lies in the cell before that of trip 2: neither is listed. The window [40,60] is the whole ruler.
@@ -77,10 +70,8 @@ fn questions(rt: &impl Print, ruler: Numbers, words: Words, name: &[u8]) -> io::
 
 // Whether a question is refused with this number, and the list stays.
 fn unasked(words: Words, start: u32, end: u32, number: u32) -> bool {
-    let mut answers = [5u32; 4];
     let asking = Asking::of(13, start, end, 0);
-    let answered = ask::ask(from_40_to_60(), words, asking, &mut answers);
-    say::is_refused(answered, number, 0) && answers == [5; 4]
+    say::unasked(from_40_to_60(), words, asking, &[5; 4], number, 0)
 }
 
 fn windows(rt: &impl Print, words: Words) -> io::Result<()> {
@@ -95,38 +86,26 @@ fn windows(rt: &impl Print, words: Words) -> io::Result<()> {
     say::case(rt, both, b"spread: window [61,39] gives 4, [60,40] gives 5")
 }
 
-// Whether the check of the words under a ruler answers this number.
-fn checked(
-    rt: &impl Print,
-    ruler: Numbers,
-    words: Words,
-    number: u32,
-    name: &[u8],
-) -> io::Result<()> {
-    let outcome = verify::check(ruler, words);
-    say::case(rt, say::is(outcome, number, 0), name)
-}
-
 // The words under other rulers. From 40 to 61 the last second of trip 8 is in cell 6; under w = 6 it begins in cell 5. From 39 to 60 a cell is
 // three seconds, 39 to 41 the first, and the trips have the cells that they had, 60 alone the last.
 fn other_rulers(rt: &impl Print, words: Words) -> io::Result<()> {
     let kind = say::ruler(6, 3);
-    checked(rt, kind, words, 8, b"spread: words of it under w 6, m 3")?;
+    say::checked(rt, kind, words, 8, b"spread: words of it under w 6, m 3")?;
     let later = say::spread(3, 40, 61);
-    checked(rt, later, words, 8, b"spread: words of it from 40 to 61")?;
+    say::checked(rt, later, words, 8, b"spread: words of it from 40 to 61")?;
     let sooner = say::spread(3, 40, 59);
-    checked(rt, sooner, words, 8, b"spread: a ruler that ends too soon")?;
+    say::checked(rt, sooner, words, 8, b"spread: a ruler that ends too soon")?;
     let flatter = say::spread(2, 40, 60);
-    checked(rt, flatter, words, 3, b"spread: a flatter ruler")?;
+    say::checked(rt, flatter, words, 3, b"spread: a flatter ruler")?;
     let earlier = say::spread(3, 39, 60);
-    checked(rt, earlier, words, 0, b"spread: words of it from 39 to 60")?;
+    say::checked(rt, earlier, words, 0, b"spread: words of it from 39 to 60")?;
     questions(rt, earlier, words, b"spread: the same ids from 39 to 60")
 }
 
 // All that is asked of the index of the four trips.
 fn answers(rt: &impl Print, words: Words) -> io::Result<()> {
     let ruler = from_40_to_60();
-    checked(rt, ruler, words, 0, b"spread: check")?;
+    say::checked(rt, ruler, words, 0, b"spread: check")?;
     places(rt, words)?;
     census(rt, words)?;
     questions(rt, ruler, words, b"spread: questions")?;
@@ -154,10 +133,10 @@ fn four_trips(rt: &impl Print) -> io::Result<()> {
     originals[16] = 1;
     let name = b"spread: a spare word";
     let words = say::words(&directory, &originals, &replicas);
-    checked(rt, from_40_to_60(), words, 8, name)
+    say::checked(rt, from_40_to_60(), words, 8, name)
 }
 
-// Whether a build is refused and writes nothing.
+// The case that a build is refused and writes nothing.
 fn refused(
     rt: &impl Print,
     ruler: Numbers,
@@ -166,11 +145,8 @@ fn refused(
     detail: u32,
     name: &[u8],
 ) -> io::Result<()> {
-    let mut directory = [7u32; 62];
-    let mut originals = [7u32; 8];
-    let outcome = build::build(ruler, table, &mut directory, &mut originals, &mut []);
-    let kept = directory == [7; 62] && originals == [7; 8];
-    say::case(rt, say::is(outcome, number, detail) & kept, name)
+    let kept = say::unbuilt(ruler, table, &[7; 62], &[7; 8], number, detail);
+    say::case(rt, kept, name)
 }
 
 fn bad_rows(rt: &impl Print) -> io::Result<()> {
@@ -202,42 +178,29 @@ fn bad_rulers(rt: &impl Print) -> io::Result<()> {
     unruled(rt, 11, 40, 60, b"spread: m = 11 gives 1")
 }
 
-// Whether a build of the table gives these words.
-fn built(table: &[u32], d: &[u32], o: &[u32], r: &[u32]) -> bool {
-    let ruler = from_40_to_60();
-    say::gives(
-        ruler,
-        table,
-        say::words(d, o, r),
-        &mut [9; 62],
-        &mut [9; 16],
-        &mut [9; 8],
-    )
-}
-
 // Edits that are refused, and change nothing: with times off the ruler, with numbers that are no ruler's, and under a ruler that these words are no
 // index of.
-fn off_the_ruler(d: &mut [u32], o: &mut [u32], r: &mut [u32]) -> bool {
-    let early = edit::add(from_40_to_60(), d, o, r, Trip::of(8, 39, 60, 1));
-    let late = edit::add(from_40_to_60(), d, o, r, Trip::of(8, 44, 61, 1));
-    say::is(early, 4, 0) & say::is(late, 4, 0) & built(&REST, d, o, r)
+fn off_the_ruler(d: &mut [u32; 62], o: &mut [u32; 16], r: &mut [u32; 8]) -> bool {
+    let ruler = from_40_to_60();
+    let early = say::adds(ruler, d, o, r, Trip::of(8, 39, 60, 1), 4, &REST);
+    let late = say::adds(ruler, d, o, r, Trip::of(8, 44, 61, 1), 4, &REST);
+    early & late
 }
 
-fn under_others(d: &mut [u32], o: &mut [u32], r: &mut [u32]) -> bool {
+fn under_others(d: &mut [u32; 62], o: &mut [u32; 16], r: &mut [u32; 8]) -> bool {
     let unruled = edit::add(say::spread(3, 60, 60), d, o, r, Trip::of(8, 60, 60, 1));
     let other = edit::remove(say::spread(3, 40, 61), d, o, r, 3);
-    say::is(unruled, 1, 0) & say::is(other, 8, 0) & built(&REST, d, o, r)
+    let same = say::built(from_40_to_60(), &REST, d, o, r);
+    say::is(unruled, 1, 0) & say::is(other, 8, 0) & same
 }
 
 // Trip 8 comes and goes: the words are those of a build with it, and of one without it.
-fn comes(d: &mut [u32], o: &mut [u32], r: &mut [u32]) -> bool {
-    let added = edit::add(from_40_to_60(), d, o, r, Trip::of(8, 44, 60, 1));
-    say::is(added, 0, 0) & built(&TABLE, d, o, r)
+fn comes(d: &mut [u32; 62], o: &mut [u32; 16], r: &mut [u32; 8]) -> bool {
+    say::adds(from_40_to_60(), d, o, r, Trip::of(8, 44, 60, 1), 0, &TABLE)
 }
 
-fn goes(d: &mut [u32], o: &mut [u32], r: &mut [u32]) -> bool {
-    let removed = edit::remove(from_40_to_60(), d, o, r, 8);
-    say::is(removed, 0, 0) & built(&REST, d, o, r)
+fn goes(d: &mut [u32; 62], o: &mut [u32; 16], r: &mut [u32; 8]) -> bool {
+    say::goes(from_40_to_60(), d, o, r, 8, &REST)
 }
 
 fn edits(rt: &impl Print) -> io::Result<()> {
@@ -282,7 +245,7 @@ fn both_kinds(rt: &impl Print) -> io::Result<()> {
     say::case(rt, say::is(built, 0, 0), b"from 0 to 3")?;
     let name = b"its words under w 2, m 2";
     let words = say::words(&directory, &originals, &[]);
-    checked(rt, bits, words, 0, name)?;
+    say::checked(rt, bits, words, 0, name)?;
     let same = listed_under_both(words);
     say::case(rt, same, b"the same id under both")
 }
@@ -292,10 +255,10 @@ fn no_trips(rt: &impl Print) -> io::Result<()> {
     let d = [0u32; 30];
     let words = say::words(&d, &[0], &[]);
     let short = say::spread(2, 0, 1);
-    checked(rt, short, words, 0, b"no trips, from 0 to 1")?;
+    say::checked(rt, short, words, 0, b"no trips, from 0 to 1")?;
     let long = say::spread(2, 9, 16777215);
-    checked(rt, long, words, 0, b"no trips, from 9 to 2^24 - 1")?;
-    checked(rt, say::ruler(24, 2), words, 0, b"no trips, under w 24")
+    say::checked(rt, long, words, 0, b"no trips, from 9 to 2^24 - 1")?;
+    say::checked(rt, say::ruler(24, 2), words, 0, b"no trips, under w 24")
 }
 
 // Builds one trip under a ruler with m = 10, and says whether its only entry is the original of a partition, in its "in" slot.

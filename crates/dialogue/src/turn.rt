@@ -64,14 +64,7 @@ fn open_turn(
         reply.old reply.new }
 {
     let n = directory_words(numbers);
-    let no_rows = [0u32; 1];
-    let outcome = build::build(
-        numbers,
-        &no_rows[0..0],
-        &mut directory[0..n],
-        originals,
-        replicas,
-    );
+    let outcome = build::build(numbers, &[], &mut directory[0..n], originals, replicas);
     let written = reply::put_outcome(reply, outcome);
     let accepted = outcome.is_ok();
     Turned {

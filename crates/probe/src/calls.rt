@@ -1,22 +1,18 @@
 // The calls themselves: each takes its numbers and buffers and says its outcome, and the count where it gives one. The answer is then
 // written by the row.
-ghost use Rattle.std.specs.Prelude.{◌≤◌, length, IfOk};
+ghost use Rattle.std.specs.Prelude.{◌≤◌, length};
 
-use crate::print::ROOM;
-use crate::rows::{Call, Gives, Row};
-use crate::scan::{Ends, Named};
-use crate::{print, scan};
+use crate::print::Answer;
+use crate::rows::{Buffers, Call, Gives, Row};
+use crate::scan;
+use crate::scan::Named;
 use layout::Rejection;
 use std::io;
 use store::words::Words;
 use trip::{Asking, Trip};
-use view::{LEVELS, SUBDIVISIONS};
 
-// What a call says: a count, which is written where the row gives one, or why it is refused.
-type Said = Result<u32, Rejection>;
-
-// The count of a call that gives none.
-const NO_COUNT: u32 = 0;
+// What a call says: a count, where it gives one, or why it is refused.
+type Said = Result<Option<u32>, Rejection>;
 
 fn build_said(
     n: Named,
@@ -26,18 +22,18 @@ fn build_said(
     replicas: &mut [u32],
 ) -> Said {
     build::build(n.ruler, table, directory, originals, replicas)?;
-    Ok(NO_COUNT)
+    Ok(None)
 }
 
 fn check_said(n: Named, words: Words) -> Said {
     verify::check(n.ruler, words)?;
-    Ok(NO_COUNT)
+    Ok(None)
 }
 
 fn add_said(n: Named, directory: &mut [u32], originals: &mut [u32], replicas: &mut [u32]) -> Said {
     let t = Trip::of(n.first, n.second, n.third, n.fourth);
     edit::add(n.ruler, directory, originals, replicas, t)?;
-    Ok(NO_COUNT)
+    Ok(None)
 }
 
 fn remove_said(
@@ -47,25 +43,26 @@ fn remove_said(
     replicas: &mut [u32],
 ) -> Said {
     edit::remove(n.ruler, directory, originals, replicas, n.first)?;
-    Ok(NO_COUNT)
+    Ok(None)
 }
 
 fn ask_said(n: Named, words: Words, answers: &mut [u32]) -> Said {
     let asking = Asking::of(n.first, n.second, n.third, n.fourth);
-    ask::ask(n.ruler, words, asking, answers)
+    Ok(Some(ask::ask(n.ruler, words, asking, answers)?))
 }
 
 fn run_said(n: Named, words: Words) -> Said {
     view::run_outcome(n.ruler, words, n.first, n.second, n.third)?;
-    Ok(NO_COUNT)
+    Ok(None)
 }
 
 fn census_said(n: Named, words: Words) -> Said {
     view::census_outcome(n.ruler, words)?;
-    Ok(NO_COUNT)
+    Ok(None)
 }
 
-// The call of a row. A row names its call: the calls take different buffers, so no one type of function fits. What a build reads, its table, stands where the others read the directory.
+// The call of a row. A row names its call: the calls take different buffers, so no one type of function fits. What a build reads,
+// its table, stands where the others read the directory.
 fn called(
     call: Call,
     n: Named,
@@ -86,16 +83,7 @@ fn called(
 }
 
 // The run that a call shows.
-fn put_run(
-    rt: &impl Print,
-    out: &mut [u8; ROOM],
-    held: usize,
-    n: Named,
-    words: Words,
-) -> io::Result<usize>
-    requires { held ≤ ROOM }
-    ensures { IfOk result (λ end. end ≤ ROOM) }
-{
+fn put_run(rt: &impl Print, answer: &mut Answer, n: Named, words: Words) -> io::Result<()> {
     let ruler = n.ruler;
     let part = view::run(
         ruler,
@@ -106,62 +94,37 @@ fn put_run(
         n.second,
         n.third,
     );
-    print::words(rt, out, held, part)
+    answer.words(rt, part)
 }
 
 // The counts of all levels, one after another.
-fn put_levels(
-    rt: &impl Print,
-    out: &mut [u8; ROOM],
-    from: usize,
-    levels: [[u32; SUBDIVISIONS]; LEVELS],
-) -> io::Result<usize>
-    requires { from ≤ ROOM }
-    ensures { IfOk result (λ end. end ≤ ROOM) }
-{
-    let mut held = from;
+fn put_census(rt: &impl Print, answer: &mut Answer, n: Named, words: Words) -> io::Result<()> {
+    let levels = view::census(n.ruler, words);
     for counts in &levels {
-        held = print::numbers(rt, out, held, counts)?;
+        answer.numbers(rt, counts)?;
     }
-    Ok(held)
+    Ok(())
 }
 
-fn put_census(
-    rt: &impl Print,
-    out: &mut [u8; ROOM],
-    held: usize,
-    n: Named,
-    words: Words,
-) -> io::Result<usize>
-    requires { held ≤ ROOM }
-    ensures { IfOk result (λ end. end ≤ ROOM) }
-{
-    let ruler = n.ruler;
-    let counts = view::census(ruler, words);
-    put_levels(rt, out, held, counts)
-}
-
-// The outcome, and what the row gives after it.
+// The outcome, and what the row gives after it. A refused call has no count, and 0 is written for it.
 fn put_said(
     rt: &impl Print,
-    out: &mut [u8; ROOM],
+    answer: &mut Answer,
     said: Said,
     gives: Gives,
     n: Named,
     words: Words,
-) -> io::Result<usize>
-    ensures { IfOk result (λ end. end ≤ ROOM) }
-{
+) -> io::Result<()> {
     let (number, detail, count) = match said {
         Ok(count) => (0, 0, count),
-        Err(rejection) => (u32::from(rejection.refusal), rejection.detail, NO_COUNT),
+        Err(rejection) => (u32::from(rejection.refusal), rejection.detail, None),
     };
-    let held = print::outcome(rt, out, number, detail)?;
+    answer.outcome(rt, number, detail)?;
     match gives {
-        Gives::Nothing => Ok(held),
-        Gives::Count => print::number(rt, out, held, count),
-        Gives::Run => put_run(rt, out, held, n, words),
-        Gives::Census => put_census(rt, out, held, n, words),
+        Gives::Nothing => Ok(()),
+        Gives::Count => answer.number(rt, count.unwrap_or(0)),
+        Gives::Run => put_run(rt, answer, n, words),
+        Gives::Census => put_census(rt, answer, n, words),
     }
 }
 
@@ -176,13 +139,12 @@ fn put_answer(
     second: &[u32],
     third: &[u32],
 ) -> io::Result<()> {
-    let mut out = [0u8; ROOM];
-    let gives = row.gives;
-    let head = put_said(rt, &mut out, said, gives, n, words)?;
-    let one = print::words_if(rt, &mut out, head, row.writes.first, first)?;
-    let two = print::words_if(rt, &mut out, one, row.writes.second, second)?;
-    let three = print::words_if(rt, &mut out, two, row.writes.third, third)?;
-    print::finish(rt, &mut out, three)
+    let mut answer = Answer::new();
+    put_said(rt, &mut answer, said, row.gives, n, words)?;
+    answer.words_if(rt, row.writes.first, first)?;
+    answer.words_if(rt, row.writes.second, second)?;
+    answer.words_if(rt, row.writes.third, third)?;
+    answer.finish(rt)
 }
 
 // Makes the call and writes its answer. The buffers that it only reads are `words`, in the order of the line.
@@ -190,7 +152,7 @@ fn make_on(
     rt: &impl Print,
     row: Row,
     n: Named,
-    ends: Ends,
+    ends: Buffers,
     read: &[u32],
     first: &mut [u32],
     second: &mut [u32],
@@ -211,8 +173,8 @@ pub fn make(
     rt: &impl Print,
     row: Row,
     n: Named,
-    reads: Ends,
-    writes: Ends,
+    reads: Buffers,
+    writes: Buffers,
     read: &[u32],
     first: &mut [u32],
     second: &mut [u32],

@@ -11,8 +11,8 @@ mod rows;
 mod scan;
 
 use input::{CHUNK, LINE};
-use rows::{FIRST, READ, Row, SECOND, THIRD};
-use scan::{Ends, Fields, Named};
+use rows::{Buffers, FIRST, READ, Row, SECOND, THIRD};
+use scan::{Fields, Named};
 use std::io;
 use std::io::Read;
 
@@ -21,8 +21,8 @@ use std::io::Read;
 struct Line {
     row: Row,
     numbers: Named,
-    reads: Ends,
-    writes: Ends,
+    reads: Buffers,
+    writes: Buffers,
 }
 
 // Reads the whole of a line, where it is a call.

@@ -45,9 +45,10 @@ pub enum Gives {
     Census,
 }
 
-// The room of each buffer, in the order of the line. Where there is no room there is no buffer.
+// A number for each buffer, in the order of the line: in a row its room, and where there is no room there is no buffer; of what was read its words,
+// or, where buffers stand one after another, where it ends.
 #[derive(Clone, Copy)]
-pub struct Rooms {
+pub struct Buffers {
     pub first: usize,
     pub second: usize,
     pub third: usize,
@@ -58,20 +59,20 @@ pub struct Rooms {
 pub struct Row {
     pub call: Call,
     pub numbers: usize,
-    pub reads: Rooms,
-    pub writes: Rooms,
+    pub reads: Buffers,
+    pub writes: Buffers,
     pub gives: Gives,
 }
 
-fn lent(first: usize, second: usize, third: usize) -> Rooms {
-    Rooms {
+fn lent(first: usize, second: usize, third: usize) -> Buffers {
+    Buffers {
         first,
         second,
         third,
     }
 }
 
-fn row_of(call: Call, numbers: usize, reads: Rooms, writes: Rooms, gives: Gives) -> Row {
+fn row_of(call: Call, numbers: usize, reads: Buffers, writes: Buffers, gives: Gives) -> Row {
     Row {
         call,
         numbers,

@@ -1,7 +1,7 @@
 // Reading a line by its row: fields parted by one space, taken one after another.
 ghost use Rattle.std.specs.Prelude.{◌≤◌, length, IfSome};
 
-use crate::rows::Rooms;
+use crate::rows::Buffers;
 use ruler::Numbers;
 
 // The fields of a line that are left: from the next one on, or none once the last was taken.
@@ -18,14 +18,6 @@ pub struct Named {
     pub second: u32,
     pub third: u32,
     pub fourth: u32,
-}
-
-// As `Rooms`, of what was read and not of what may be: how many words each buffer has, or, of buffers that stand one after another, where it ends.
-#[derive(Clone, Copy)]
-pub struct Ends {
-    pub first: usize,
-    pub second: usize,
-    pub third: usize,
 }
 
 impl<'a> Fields<'a> {
@@ -102,26 +94,26 @@ impl<'a> Fields<'a> {
         Some(end)
     }
 
-    // The buffers that a call only reads, one after another.
-    pub fn reads(&mut self, rooms: Rooms, words: &mut [u32]) -> Option<Ends> {
+    // The buffers that a call only reads, one after another, and where each ends.
+    pub fn reads(&mut self, rooms: Buffers, words: &mut [u32]) -> Option<Buffers> {
         let first = self.words(rooms.first, words, 0)?;
         let second = self.words(rooms.second, words, first)?;
         let third = self.words(rooms.third, words, second)?;
-        Some(Ends {
+        Some(Buffers {
             first,
             second,
             third,
         })
     }
 
-    // The buffers that a call may write, each at its own place.
+    // The buffers that a call may write, each at its own place, and how many words each has.
     pub fn writes(
         &mut self,
-        rooms: Rooms,
+        rooms: Buffers,
         first: &mut [u32],
         second: &mut [u32],
         third: &mut [u32],
-    ) -> Option<Ends>
+    ) -> Option<Buffers>
         ensures first_in_bounds { IfSome result (λ ends. ends.first ≤ length first.new) }
         ensures second_in_bounds { IfSome result (λ ends. ends.second ≤ length second.new) }
         ensures third_in_bounds { IfSome result (λ ends. ends.third ≤ length third.new) }
@@ -129,7 +121,7 @@ impl<'a> Fields<'a> {
         let a = self.words(rooms.first, first, 0)?;
         let b = self.words(rooms.second, second, 0)?;
         let c = self.words(rooms.third, third, 0)?;
-        Some(Ends {
+        Some(Buffers {
             first: a,
             second: b,
             third: c,

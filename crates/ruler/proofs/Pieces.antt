@@ -6,11 +6,10 @@ use native.Mathlib.Nat.{two-pow-succ, mod-lt, mod-one, div-eq_of_lt, le-div_iff_
 use native.Mathlib.Decide.{dec_lt}
 use native.Mathlib.Omega.{arith}
 use lib.Bits.{bit_xor, xor_lt, xor_add_and, and_le_l, and_le_r, xor_shr, xor_self}
-use lib.Count.{ones, ones_step, ones_cat, count_leading_zeros}
+use lib.Count.{ones, ones_step, ones_cat}
 use lib.Pow.{pow_pos, pow_mono, mod-pow-add, shr-shr}
 use borrow.Author.Tests.{le-leb, lt-leb}
 use Rattle.ruler.specs.Ruler.{deepest, pieces}
-use Rattle.ruler.proofs.Zeros.{highest}
 
 pub pieces_none : (n x y : ℕ) → y ≤ x → pieces n x y ≡ 0
 unfolding pieces
@@ -93,42 +92,27 @@ differ_at p y D h e =
 pub xor_some : (p y : ℕ) → p < y → 0 < bit_xor p y
 xor_some p y h = omega (arith, xor_add_and p y, and_le_l p y)
 
--- what the code counts from a cell a that is not the first, to b: both numbers in one word
-module _ (m a b : ℕ) (deep : m ≤ deepest) (some : 0 < a) (ordered : a ≤ b) (inside : b < 2 ^ m) where
-  abbrev differing : ℕ
-  differing = bit_xor (a - 1) (b + 1)
-
-  abbrev pub share : ℕ
-  share = 2 ^ (31 - count_leading_zeros 32 differing)
-
-  few : differing < 2 ^ suc m
-  few = let t = two-pow-succ m in xor_lt (suc m) (a - 1) (b + 1) (omega arith) (omega (arith, pow_pos m))
-
-  top : (count_leading_zeros 32 differing ≤ 31) × (share ≤ differing) × (differing < 2 ^ (31 - count_leading_zeros 32 differing + 1))
-  top =
-      let deeper : suc m ≤ deepest + 1 = omega arith in
-      highest differing (xor_some (a - 1) (b + 1) (omega arith)) (omega (arith, few, pow_mono deeper))
-
-  level : 31 - count_leading_zeros 32 differing < m + 1
-  level = go (dec_lt (31 - count_leading_zeros 32 differing) (m + 1))
+-- what the code counts from a cell a that is not the first, to b, by the highest digit d at which both differ: both numbers in one word
+module _ (m a b d : ℕ) (deep : m ≤ deepest) (some : 0 < a) (ordered : a ≤ b) (inside : b < 2 ^ m) (least : 2 ^ d ≤ bit_xor (a - 1) (b + 1))
+    (under : bit_xor (a - 1) (b + 1) < 2 * 2 ^ d) where
+  level : d < m + 1
+  level = go (dec_lt d (m + 1))
     where
-      go : Dec (31 - count_leading_zeros 32 differing < m + 1) → 31 - count_leading_zeros 32 differing < m + 1
+      go : Dec (d < m + 1) → d < m + 1
       go (yes l) = l
-      go (no l) = let up : suc m ≤ 31 - count_leading_zeros 32 differing = omega arith in absurd (omega (arith, few, top.1, pow_mono up))
+      go (no l) =
+          let up : suc m ≤ d = omega arith in
+          let few = let t = two-pow-succ m in xor_lt (suc m) (a - 1) (b + 1) (omega arith) (omega (arith, pow_pos m)) in
+          absurd (omega (arith, few, least, pow_mono up))
 
-  pub zeros_fit : count_leading_zeros 32 differing ≤ 31
-  zeros_fit = top.0
+  pub share_small : 2 ^ d ≤ 2 ^ deepest
+  share_small = let l : d ≤ deepest = omega (arith, level) in pow_mono l
 
-  pub share_small : share ≤ 2 ^ deepest
-  share_small = let l : 31 - count_leading_zeros 32 differing ≤ deepest = omega (arith, level) in pow_mono l
-
-  pub counted : ones ((share - 1 - (a - 1) % share) * 2 ^ 16 + (b + 1) % share) ≡ pieces (m + 1) a (b + 1)
+  pub counted : ones ((2 ^ d - 1 - (a - 1) % 2 ^ d) * 2 ^ 16 + (b + 1) % 2 ^ d) ≡ pieces (m + 1) a (b + 1)
   counted =
-      let d = 31 - count_leading_zeros 32 differing in
-      let next : d + 1 ≡ suc d = omega arith in
       let back : a - 1 + 1 ≡ a = omega arith in
       let small = mod-lt (b + 1) (pow_pos d) in
-      let under : differing < 2 ^ suc d = rw next at top.2 in
-      ones_cat 16 (share - 1 - (a - 1) % share) ((b + 1) % share) (omega (arith, small, share_small))
-      ∙ sym (pieces_digits d (m + 1) (a - 1) (b + 1) level (omega arith) (differ-below (a - 1) (b + 1) d under) (differ_at (a - 1) (b + 1) d top.1))
+      let below : bit_xor (a - 1) (b + 1) < 2 ^ suc d = omega (arith, two-pow-succ d, under) in
+      ones_cat 16 (2 ^ d - 1 - (a - 1) % 2 ^ d) ((b + 1) % 2 ^ d) (omega (arith, small, share_small))
+      ∙ sym (pieces_digits d (m + 1) (a - 1) (b + 1) level (omega arith) (differ-below (a - 1) (b + 1) d below) (differ_at (a - 1) (b + 1) d least))
       ∙ ap (λ (x : ℕ). pieces (m + 1) x (b + 1)) back

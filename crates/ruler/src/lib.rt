@@ -37,9 +37,6 @@ impl Time {
     }
 }
 
-// The place of a word's highest digit.
-const TOP_DIGIT: u32 = 31;
-
 // Two numbers below it stand in one word.
 const HALF_WORD: u32 = 65536;
 
@@ -157,7 +154,7 @@ impl Cell {
         requires { (self.0 ≤ deepest) × (self.1 ≤ last.1) × (last.1 < 2 ^ self.0) }
         ensures { (2 ^ result ≤ last.1 - self.1 + 1) × (last.1 - self.1 + 1 < 2 ^ (result + 1)) }
     {
-        TOP_DIGIT - u32::leading_zeros(last.1 - self.1 + 1)
+        (last.1 - self.1 + 1).ilog2()
     }
 
     // How many cells of its level and those above, each as large as can be, make up those from it to a later one. Below the highest digit at which the
@@ -171,7 +168,7 @@ impl Cell {
             return u32::count_ones(after);
         }
         let before = self.1 - 1;
-        let share = power(TOP_DIGIT - u32::leading_zeros(before ^ after));
+        let share = power((before ^ after).ilog2());
         u32::count_ones((share - 1 - before % share) * HALF_WORD + after % share)
     }
 

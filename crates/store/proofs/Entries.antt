@@ -1,9 +1,9 @@
 -- Entries in a list of words: what a trip's stores leave, in words and in rows, and the ids of rows.
 use mathlib.Core.Path.{◌≡◌, sym, ap, ap₂, ◌∙◌}
-use mathlib.Core.List.{List, [], ◌∷◌, ◌++◌, append_assoc, append-nil}
+use mathlib.Core.List.{List, [], ◌∷◌, ◌++◌, append_assoc}
 use Prim.Native.Nat.{ℕ, suc, ◌+◌, ◌*◌, ◌/◌, ◌<◌}
 use native.Mathlib.Omega.{arith}
-use lib.ListN.{length, take, drop, get_or, set, length-append, drop_of_length-le}
+use lib.ListN.{length, take, drop, get_or, set, length-append}
 use lib.Seq.{sets-eq, take_at, drop_at, take-append-add, drop-append-add, set_split}
 use Rattle.lists.specs.Lists.{up_to}
 use Rattle.lists.proofs.Upto.{map-up_to}
@@ -24,13 +24,6 @@ put-words l k t h =
     let two : a + 2 ≡ suc (suc a) = omega arith in
     let three : a + 3 ≡ suc (suc (suc a)) = omega arith in
     rw (one, two, three) (sets-eq (t.id ∷ t.start.0 ∷ t.end.0 ∷ t.days ∷ []) l a (omega arith) ∙ append_assoc (take a l) _ _)
-
--- a list of one entry
-pub put_whole : (t : Trip) (l : List ℕ) → length l ≡ entry_words → put 0 t l ≡ trip_words t
-unfolding put
-put_whole t l e =
-    let none : drop entry_words l ≡ [] = drop_of_length-le l {i = entry_words} (omega arith) in
-    rw none (append-nil (trip_words t))
 
 -- a trip put over the words m of the entry after those of p
 pub put_seam : (p m q : List ℕ) (k : ℕ) (t : Trip) → length p ≡ entry_words * k → length m ≡ entry_words

@@ -39,83 +39,6 @@ fn climb(words: &[u32], step: usize) -> bool
     climbs(words.len() / step, |k| words[step * k] as u64)
 }
 
-// An id spread over all words, times so many classes: the high word is its class, and the low word stands for it in its class.
-fn spread_of(id: u32, classes: u64) -> u64
-    requires { classes ≤ word_end }
-    ensures { result ≡ spread classes id }
-{
-    id as u64 * MIX % WORD_END * classes
-}
-
-// The class of an id, one of so many.
-fn class_of(id: u32, classes: u64) -> u64
-    requires { classes ≤ word_end }
-    ensures { result ≡ class_of classes id }
-{
-    spread_of(id, classes) / WORD_END
-}
-
-// Gathers the ids of a class that some rows have in a room, after those it has, and says how many it has then. Each id is written, and the
-// next over it where it is of another class: so no jump depends on the class, and none on the room, which has words for all the rows.
-fn gather_rows(
-    part: &[u32],
-    classes: u64,
-    class: u64,
-    from: usize,
-    to: usize,
-    room: &mut [u32],
-    had: usize,
-) -> usize
-    requires { (classes ≤ word_end) × (from ≤ to) × (to ≤ length part.now / entry_words) × (had + (to - from) ≤ length room.old) }
-    ensures { (result ≤ had + (to - from)) × (take had room.old ++ of_class classes class (rows part.now) from ≡ take result room.new ++ of_class classes class (rows part.now) to) }
-{
-    let mut found = had;
-    for k in from..to {
-        let id = part[ENTRY_WORDS * k];
-        room[found] = id;
-        if class_of(id, classes) == class {
-            found += 1;
-        }
-    }
-    found
-}
-
-// How many ids of a class were gathered, and the row after the last that was looked at.
-#[derive(Clone, Copy)]
-struct Gathered {
-    found: usize,
-    next: usize,
-}
-
-// Gathers the ids of a class, from one row on, in the first words of a room, until the rows end or it is full: a stretch of rows at a time that
-// cannot overfill it.
-fn gather(part: &[u32], classes: u64, class: u64, from: usize, room: &mut [u32]) -> Gathered
-    requires { (classes ≤ word_end) × (0 < length room.old) }
-    ensures { Gathers classes class (rows part.now) from room.new result.found result.next }
-{
-    let n = part.len() / ENTRY_WORDS;
-    let mut found: usize = 0;
-    let mut k = from;
-    // A turn takes a stretch of rows, and not one row.
-    while k < n {
-        if room.len() <= found {
-            return Gathered { found, next: k };
-        }
-        let to = k + (n - k).min(room.len() - found);
-        found = gather_rows(part, classes, class, k, to, room, found);
-        k = to;
-    }
-    Gathered { found, next: k }
-}
-
-// The mark of an id: of those of one class few have the same.
-fn mark_of(id: u32, classes: u64) -> usize
-    requires { classes ≤ word_end }
-    ensures { result ≡ mark_of classes id }
-{
-    (spread_of(id, classes) % WORD_END / MARK_SHARE) as usize
-}
-
 // Sets a mark, and says whether it was set before.
 fn set_mark(marks: &mut [u32; MARK_WORDS], mark: usize) -> bool
     requires { mark < mark_words * word_bits }
@@ -137,22 +60,6 @@ fn has(words: &[u32], id: u32) -> bool
         found |= *word == id;
     }
     found
-}
-
-// Whether words differ. Each sets its mark: one whose mark was set is looked for among those before it, any other cannot stand there.
-fn words_differ(words: &[u32], classes: u64) -> bool
-    requires { classes ≤ word_end }
-    ensures { result ≡ differ words.now }
-{
-    let mut marks: [u32; MARK_WORDS] = [0; MARK_WORDS];
-    for (i, word) in words.iter().enumerate() {
-        let id = *word;
-        let set_before = set_mark(&mut marks, mark_of(id, classes));
-        if set_before && has(&words[..i], id) {
-            return false;
-        }
-    }
-    true
 }
 
 // Puts a room in order, and says whether its words differ.
@@ -187,44 +94,144 @@ fn holds(room: &[u32], id: u32) -> bool
     room[low] == id
 }
 
-// Whether a full room, in order, has none of a class from one row on.
-fn none_again(part: &[u32], classes: u64, class: u64, from: usize, room: &[u32]) -> bool
-    requires { (classes ≤ word_end) × (length room.now ≡ room_length) × (climbs room.now ≡ true) }
-    ensures { result ≡ apart room.now (of_class classes class (rows part.now) from) }
-{
-    let n = part.len() / ENTRY_WORDS;
-    for k in from..n {
-        let id = part[ENTRY_WORDS * k];
-        if class_of(id, classes) == class && holds(room, id) {
-            return false;
-        }
-    }
-    true
+// How many ids of a class were gathered, and the row after the last that was looked at.
+#[derive(Clone, Copy)]
+struct Gathered {
+    found: usize,
+    next: usize,
 }
 
-// Whether the ids of a class differ. A room that holds all that are left, as at once in most classes, is told apart by marks; a full one is put
-// in order, and those that come later are looked up in it.
-fn class_differs(part: &[u32], classes: u64, class: u64, room: &mut [u32]) -> bool
-    requires { (classes ≤ word_end) × (length room.old ≡ room_length) }
-    ensures { result ≡ differ (of_class classes class (rows part.now) 0) }
-{
-    let n = part.len() / ENTRY_WORDS;
-    let mut k: usize = 0;
-    // A turn takes the rows that fill the room, and not one row.
-    while k < n {
-        let Gathered { found, next } = gather(part, classes, class, k, room);
-        k = next;
-        if n <= k {
-            return words_differ(&room[0..found], classes);
-        }
-        if !put_in_order(room) {
-            return false;
-        }
-        if !none_again(part, classes, class, k, room) {
-            return false;
-        }
+// A class of ids, and how many classes there are: no more than there are words, so that the product of a word and their number fits two words.
+#[derive(Clone, Copy)]
+struct Class {
+    classes: u64,
+    class: u64,
+    ghost few: { classes ≤ word_end },
+}
+
+impl Class {
+    // An id spread over all words, times so many classes: the high word is its class, and the low word stands for it in its class.
+    fn spread_of(self, id: u32) -> u64
+        ensures { result ≡ spread self.classes id }
+    {
+        id as u64 * MIX % WORD_END * self.classes
     }
-    true
+
+    // The class of an id, one of so many.
+    fn class_of(self, id: u32) -> u64
+        ensures { result ≡ class_of self.classes id }
+    {
+        self.spread_of(id) / WORD_END
+    }
+
+    // Gathers the ids of a class that some rows have in a room, after those it has, and says how many it has then. Each id is written, and the
+    // next over it where it is of another class: so no jump depends on the class, and none on the room, which has words for all the rows.
+    fn gather_rows(
+        self,
+        part: &[u32],
+        from: usize,
+        to: usize,
+        room: &mut [u32],
+        had: usize,
+    ) -> usize
+        requires { (from ≤ to) × (to ≤ length part.now / entry_words) × (had + (to - from) ≤ length room.old) }
+        ensures { (result ≤ had + (to - from))
+            × (take had room.old ++ of_class self.classes self.class (rows part.now) from
+            ≡ take result room.new ++ of_class self.classes self.class (rows part.now) to) }
+    {
+        let mut found = had;
+        for k in from..to {
+            let id = part[ENTRY_WORDS * k];
+            room[found] = id;
+            if self.class_of(id) == self.class {
+                found += 1;
+            }
+        }
+        found
+    }
+
+    // Gathers the ids of a class, from one row on, in the first words of a room, until the rows end or it is full: a stretch of rows at a time that
+    // cannot overfill it.
+    fn gather(self, part: &[u32], from: usize, room: &mut [u32]) -> Gathered
+        requires { 0 < length room.old }
+        ensures { Gathers self.classes self.class (rows part.now) from room.new result.found result.next }
+    {
+        let n = part.len() / ENTRY_WORDS;
+        let mut found: usize = 0;
+        let mut k = from;
+        // A turn takes a stretch of rows, and not one row.
+        while k < n {
+            if room.len() <= found {
+                return Gathered { found, next: k };
+            }
+            let to = k + (n - k).min(room.len() - found);
+            found = self.gather_rows(part, k, to, room, found);
+            k = to;
+        }
+        Gathered { found, next: k }
+    }
+
+    // The mark of an id: of those of one class few have the same.
+    fn mark_of(self, id: u32) -> usize
+        ensures { result ≡ mark_of self.classes id }
+    {
+        (self.spread_of(id) % WORD_END / MARK_SHARE) as usize
+    }
+
+    // Whether words differ. Each sets its mark: one whose mark was set is looked for among those before it, any other cannot stand there.
+    fn words_differ(self, words: &[u32]) -> bool
+        ensures { result ≡ differ words.now }
+    {
+        let mut marks: [u32; MARK_WORDS] = [0; MARK_WORDS];
+        for (i, word) in words.iter().enumerate() {
+            let id = *word;
+            let set_before = set_mark(&mut marks, self.mark_of(id));
+            if set_before && has(&words[..i], id) {
+                return false;
+            }
+        }
+        true
+    }
+
+    // Whether a full room, in order, has none of a class from one row on.
+    fn none_again(self, part: &[u32], from: usize, room: &[u32]) -> bool
+        requires { (length room.now ≡ room_length) × (climbs room.now ≡ true) }
+        ensures { result ≡ apart room.now (of_class self.classes self.class (rows part.now) from) }
+    {
+        let n = part.len() / ENTRY_WORDS;
+        for k in from..n {
+            let id = part[ENTRY_WORDS * k];
+            if self.class_of(id) == self.class && holds(room, id) {
+                return false;
+            }
+        }
+        true
+    }
+
+    // Whether the ids of a class differ. A room that holds all that are left, as at once in most classes, is told apart by marks; a full one is put
+    // in order, and those that come later are looked up in it.
+    fn differs(self, part: &[u32], room: &mut [u32]) -> bool
+        requires { length room.old ≡ room_length }
+        ensures { result ≡ differ (of_class self.classes self.class (rows part.now) 0) }
+    {
+        let n = part.len() / ENTRY_WORDS;
+        let mut k: usize = 0;
+        // A turn takes the rows that fill the room, and not one row.
+        while k < n {
+            let Gathered { found, next } = self.gather(part, k, room);
+            k = next;
+            if n <= k {
+                return self.words_differ(&room[0..found]);
+            }
+            if !put_in_order(room) {
+                return false;
+            }
+            if !self.none_again(part, k, room) {
+                return false;
+            }
+        }
+        true
+    }
 }
 
 // Whether the ids of a part differ. A table often has its rows by id: then nothing need be put in order.
@@ -238,7 +245,7 @@ pub fn ids_differ(part: &[u32]) -> bool
     let mut room: [u32; ROOM] = [0; ROOM];
     let classes = (part.len() / ENTRY_WORDS / EVEN) as u64 + 1;
     for class in 0..classes {
-        if !class_differs(part, classes, class, &mut room) {
+        if !(Class { classes, class }).differs(part, &mut room) {
             return false;
         }
     }

@@ -7,8 +7,8 @@ ghost use Rattle.trip.specs.Trips.{trip_of, same_trip, runs_on_any, never_runs, 
 
 use ruler::Time;
 
-// A trip's running time, closed at both ends, and a bit for each day on which it runs.
-#[derive(Clone, Copy, PartialEq, Eq)]
+// A trip's running time, closed at both ends, and a bit for each day on which it runs. Trips are ordered by their words, as the fields stand.
+#[derive(Clone, Copy, PartialEq, Eq, PartialOrd, Ord)]
 pub struct Trip {
     pub id: u32,
     pub start: Time,

@@ -2,12 +2,12 @@
 use mathlib.Core.Path.{◌≡◌, refl, ◌∙◌}
 use mathlib.Core.Bool.{Bool, true, false, ◌&&◌, and-true, and-false, and_assoc}
 use mathlib.Core.List.{List, [], ◌∷◌}
-use Prim.Native.Nat.{ℕ, zero, suc, ◌+◌, ◌/◌, ◌≤◌, ◌<◌}
+use Prim.Native.Nat.{ℕ, zero, suc, ◌+◌, ◌*◌, ◌/◌, ◌≤◌, ◌<◌}
 use native.Mathlib.Numerals.{add-one}
 use native.Mathlib.Decide.{dec_lt}
 use native.Mathlib.Omega.{arith}
 use lib.Bits.{bit_or, or_add_and, and_le_r}
-use lib.Dec.{eqb}
+use lib.Dec.{eqb, ltb}
 use lib.ListN.{length, get_or, drop, drop_of_length-le}
 use lib.Seq.{drop-cons}
 use borrow.Author.Tests.{lt-ltb, le-ltb, ne_eqb}
@@ -60,18 +60,19 @@ module _ (part : List ℕ) where
   each_row p e k h =
       of_T _ (rw (get_or_rows part k no_trip h) at (of_each p (rows part) (to_T e) (get_or (rows part) k no_trip) (at_mem no_trip (rows part) k (rw length-rows h))))
 
-  module _ (p : Trip → Bool) (k : ℕ) where
-    pub each_more : k < length part / entry_words → p (trip_at part k) ≡ true → each p (drop (k + 1) (rows part)) ≡ each p (drop k (rows part))
+  -- where the rows left all pass exactly if b is true
+  module _ (p : Trip → Bool) (k : ℕ) {b : Bool} (left : each p (drop k (rows part)) ≡ b) where
+    pub each_more : k < length part / entry_words → p (trip_at part k) ≡ true → each p (drop (k + 1) (rows part)) ≡ b
     unfolding each
-    each_more h e = rw (row_left k h, e)
+    each_more h e = rw (row_left k h, e) at left
 
-    pub each_stop : k < length part / entry_words → p (trip_at part k) ≡ false → each p (drop k (rows part)) ≡ false
+    pub each_stop : k < length part / entry_words → p (trip_at part k) ≡ false → false ≡ b
     unfolding each
-    each_stop h e = rw (row_left k h, e)
+    each_stop h e = rw (row_left k h, e) at left
 
-    pub each_end : length part / entry_words ≤ k → each p (drop k (rows part)) ≡ true
+    pub each_end : length part / entry_words ≤ k → true ≡ b
     unfolding each
-    each_end h = rw (row_none k h)
+    each_end h = rw (row_none k h) at left
 
   module _ (p : Trip → Bool) (lt : Trip → Trip → Bool) where
     pub row_empty : length part / entry_words ≡ 0 → in_row p lt (rows part) ≡ true
@@ -86,26 +87,47 @@ module _ (part : List ℕ) where
     unfolding in_row
     row_fails h e = let l : rows part ≡ trip_at part 0 ∷ drop (0 + 1) (rows part) = row_left 0 h in rw (l, e)
 
-    module _ (x : Trip) (k : ℕ) where
-      pub row_out : k < length part / entry_words → p (trip_at part k) ≡ false → after p lt x (drop k (rows part)) ≡ false
-      unfolding after
-      row_out h e = rw (row_left k h, e)
+-- The trips from place k on stand in a row after x, the last one met, exactly if all of them stand in a row: `last` is the key of x.
+abbrev pub Met : (part : List ℕ) (p : Trip → Bool) (by last k : ℕ) → Type 0
+Met part p by last k =
+    (x : Trip) × (x.id < word_end) × (last ≡ key_by by x)
+    × ((d : Subdivision) → by ≡ key_place d → after p (order d) x (drop k (rows part)) ≡ in_row p (order d) (rows part))
 
-      pub row_end : length part / entry_words ≤ k → after p lt x (drop k (rows part)) ≡ true
-      unfolding after
-      row_end h = rw (row_none k h)
+-- ids are words
+id_below : (part : List ℕ) → ((i : ℕ) → get_or part i 0 < word_end) → (k : ℕ) → (trip_at part k).id < word_end
+unfolding trip_at
+id_below part word k = omega (arith, word (entry_words * k))
 
-  -- in the order of a subdivision, by the keys of x and of entry k
-  module _ (p : Trip → Bool) (d : Subdivision) (by : ℕ) (q : by ≡ key_place d) (x : Trip) (k : ℕ) (i : x.id < word_end) (j : (trip_at part k).id < word_end)
-      {last key : ℕ} (l : last ≡ key_by by x) (n : key ≡ key_by by (trip_at part k)) where
-    pub row_low : k < length part / entry_words → p (trip_at part k) ≡ true → key ≤ last → after p (order d) x (drop k (rows part)) ≡ false
+module _ (part : List ℕ) (p : Trip → Bool) (by : ℕ) where
+  pub met_first : (last : ℕ) → ((i : ℕ) → get_or part i 0 < word_end) → 0 < length part / entry_words → p (trip_at part 0) ≡ true
+      → last ≡ key_by by (trip_at part 0) → Met part p by last 1
+  met_first last word h e l = (trip_at part 0, id_below part word 0, l, λ d q. row_first part p (order d) h e)
+
+  module _ (last k : ℕ) (met : Met part p by last k) where
+    pub met_out : k < length part / entry_words → p (trip_at part k) ≡ false → (d : Subdivision) → by ≡ key_place d
+        → false ≡ in_row p (order d) (rows part)
     unfolding after
-    row_low h e low = rw (row_left k h, e, key_below d by q x (trip_at part k) i j, ← l, ← n, le-ltb last key low)
+    met_out h e d q = rw (row_left part k h, e) at (met.3 d q)
 
-    pub row_more : k < length part / entry_words → p (trip_at part k) ≡ true → last < key
-        → after p (order d) (trip_at part k) (drop (k + 1) (rows part)) ≡ after p (order d) x (drop k (rows part))
+    pub met_end : length part / entry_words ≤ k → (d : Subdivision) → by ≡ key_place d → true ≡ in_row p (order d) (rows part)
     unfolding after
-    row_more h e up = rw (row_left k h, e, key_below d by q x (trip_at part k) i j, ← l, ← n, lt-ltb last key up)
+    met_end h d q = rw (row_none part k h) at (met.3 d q)
+
+    -- the next one, by its key
+    module _ (key : ℕ) (word : (i : ℕ) → get_or part i 0 < word_end) (h : k < length part / entry_words) (e : p (trip_at part k) ≡ true)
+        (n : key ≡ key_by by (trip_at part k)) where
+      step : (b : Bool) (d : Subdivision) → by ≡ key_place d → ltb last key ≡ b
+          → b && after p (order d) (trip_at part k) (drop (k + 1) (rows part)) ≡ in_row p (order d) (rows part)
+      unfolding after
+      step b d q f =
+          let above = key_below d by q met.0 (trip_at part k) met.1 (id_below part word k) in
+          rw (row_left part k h, e, above, ← met.2, ← n, f) at (met.3 d q)
+
+      pub met_low : key ≤ last → (d : Subdivision) → by ≡ key_place d → false ≡ in_row p (order d) (rows part)
+      met_low low d q = step false d q (le-ltb last key low)
+
+      pub met_more : last < key → Met part p by key (k + 1)
+      met_more up = (trip_at part k, id_below part word k, n, λ d q. step true d q (lt-ltb last key up))
 
 -- ---- numbers
 

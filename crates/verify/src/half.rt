@@ -15,6 +15,13 @@ use store::half::words_of;
 use store::ordering::{key_at, key_place};
 use store::part::part_there;
 
+// The words of one half: its part of the directory, and its arena.
+#[derive(Clone, Copy)]
+pub struct HalfWords<'a> {
+    pub dir: &'a [u32],
+    pub arena: &'a [u32],
+}
+
 // Whether no word is below the one before it. Windows take a third of the time of `is_sorted`.
 fn rises(dir: &[u32]) -> bool
     ensures { IsTrue result ↔ ((k : ℕ) → k + 1 < length dir.now → get_or dir.now k 0 ≤ get_or dir.now (k + 1) 0) }
@@ -34,15 +41,15 @@ fn is_blank(words: &[u32]) -> bool
 }
 
 // Whether the counts start at 0, never fall and fit the arena, and the words after the last entry are 0.
-pub fn half_ok(dir: &[u32], arena: &[u32]) -> bool
-    requires { 0 < length dir.now }
-    ensures { result ≡ half_ok dir.now arena.now }
+pub fn half_ok(words: HalfWords) -> bool
+    requires { 0 < length words.dir.now }
+    ensures { result ≡ half_ok words.entry.dir.now words.entry.arena.now }
 {
-    let used = words_of(dir);
-    if arena.len() < used {
+    let used = words_of(words.dir);
+    if words.arena.len() < used {
         return false;
     }
-    (dir[0] == 0) & (rises(dir) & is_blank(&arena[used..]))
+    (words.dir[0] == 0) & (rises(words.dir) & is_blank(&words.arena[used..]))
 }
 
 // Whether each of the n entries of a part may stand in a slot of this frame, and comes after the one before it in the order of its subdivision,
@@ -73,13 +80,14 @@ fn in_row(ruler: Ruler, d: Subdivision, frame: Frame, part: &[u32], n: usize) ->
 }
 
 // Whether slot k of a half, one of this partition's, is as it should be. Most slots have no entry.
-fn slot_at(ruler: Ruler, half: Half, partition: Cell, dir: &[u32], arena: &[u32], k: usize) -> bool
-    requires partition_bound { (partition.0 ≤ (scale ruler).m) × (partition.1 < 2 ^ partition.0) × (k / 2 ≡ partition_number partition.0 partition.1) }
-    requires part_there { PartThere dir.now arena.now k (k + 1) }
-    ensures { result ≡ slot_ok (scale ruler) half k (slot_at dir.now arena.now k) }
+fn slot_at(ruler: Ruler, half: Half, partition: Cell, words: HalfWords, k: usize) -> bool
+    requires partition_bound { (partition.0 ≤ (scale ruler).m) × (partition.1 < 2 ^ partition.0)
+        × (k / 2 ≡ partition_number partition.0 partition.1) }
+    requires part_there { PartThere words.dir.now words.arena.now k (k + 1) }
+    ensures { result ≡ slot_ok (scale ruler) half k (slot_at words.entry.dir.now words.entry.arena.now k) }
 {
-    let from = dir[k];
-    let to = dir[k + 1];
+    let from = words.dir[k];
+    let to = words.dir[k + 1];
     if from == to {
         return true;
     }
@@ -87,25 +95,31 @@ fn slot_at(ruler: Ruler, half: Half, partition: Cell, dir: &[u32], arena: &[u32]
     let frame = frame_of(ruler.bottom(), half, aft, partition);
     let d = subdivision_of(half, aft);
     let n = (to - from) as usize;
-    in_row(ruler, d, frame, part_there(dir, arena, k, k + 1), n)
+    in_row(
+        ruler,
+        d,
+        frame,
+        part_there(words.dir, words.arena, k, k + 1),
+        n,
+    )
 }
 
 // Whether every slot of a level of a half is. A level whose outer words are equal has no entry.
-fn level_ok(ruler: Ruler, half: Half, level: u32, dir: &[u32], arena: &[u32]) -> bool
+fn level_ok(ruler: Ruler, half: Half, level: u32, words: HalfWords) -> bool
     requires level_in { level ≤ (scale ruler).m }
-    requires dir_len { length dir.now ≡ half_length (scale ruler).m }
-    requires half_passed { half_ok dir.now arena.now ≡ true }
-    ensures { result ≡ level_ok (scale ruler) half level dir.now arena.now }
+    requires dir_len { length words.dir.now ≡ half_length (scale ruler).m }
+    requires half_passed { half_ok words.dir.now words.arena.now ≡ true }
+    ensures { result ≡ level_ok (scale ruler) half level words.entry.dir.now words.entry.arena.now }
 {
     let across = power(level) as usize;
     let first = 2 * (across - 1);
     let n = 2 * across;
-    if dir[first] == dir[first + n] {
+    if words.dir[first] == words.dir[first + n] {
         return true;
     }
     for j in 0..n {
         let partition = Cell::at(level, (j / 2) as u32);
-        if !slot_at(ruler, half, partition, dir, arena, first + j) {
+        if !slot_at(ruler, half, partition, words, first + j) {
             return false;
         }
     }
@@ -113,14 +127,14 @@ fn level_ok(ruler: Ruler, half: Half, level: u32, dir: &[u32], arena: &[u32]) ->
 }
 
 // Whether every slot of a half is.
-pub fn slots_ok(ruler: Ruler, half: Half, dir: &[u32], arena: &[u32]) -> bool
-    requires dir_len { length dir.now ≡ half_length (scale ruler).m }
-    requires half_passed { half_ok dir.now arena.now ≡ true }
-    ensures { result ≡ slots_ok (scale ruler) half dir.now arena.now }
+pub fn slots_ok(ruler: Ruler, half: Half, words: HalfWords) -> bool
+    requires dir_len { length words.dir.now ≡ half_length (scale ruler).m }
+    requires half_passed { half_ok words.dir.now words.arena.now ≡ true }
+    ensures { result ≡ slots_ok (scale ruler) half words.entry.dir.now words.entry.arena.now }
 {
     let m = ruler.bottom();
     for level in 0..=m {
-        if !level_ok(ruler, half, level, dir, arena) {
+        if !level_ok(ruler, half, level, words) {
             return false;
         }
     }

@@ -11,7 +11,7 @@ ghost use Rattle.verify.specs.Local.{halves_ok, all_slots_ok, trips_ok, locally}
 ghost use Rattle.verify.specs.Opening.{open_of, outcome_of};
 
 use counting::counts_to;
-use half::{half_ok, slots_ok};
+use half::{HalfWords, half_ok, slots_ok};
 use layout::directory::half_length;
 use layout::{Half, Refusal, Rejection};
 use origin::all_known;
@@ -26,53 +26,53 @@ mod half;
 mod origin;
 mod partition;
 
-// The tests over the words of both halves; o and r are the halves of the directory.
-fn halves_ok(o: &[u32], originals: &[u32], r: &[u32], replicas: &[u32]) -> bool
-    requires { (0 < length o.now) × (0 < length r.now) }
-    ensures { result ≡ halves_ok o.now originals.now r.now replicas.now }
+// The tests over the words of both halves.
+fn halves_ok(originals: HalfWords, replicas: HalfWords) -> bool
+    requires { (0 < length originals.dir.now) × (0 < length replicas.dir.now) }
+    ensures { result ≡ halves_ok originals.entry.dir.now originals.entry.arena.now replicas.entry.dir.now replicas.entry.arena.now }
 {
-    half_ok(o, originals) & half_ok(r, replicas)
+    half_ok(originals) & half_ok(replicas)
 }
 
 // The tests over the slots of both halves.
 #[tactic(auto, using(crate::proofs::TestsPassed::some_words))]
-fn all_slots_ok(ruler: Ruler, o: &[u32], originals: &[u32], r: &[u32], replicas: &[u32]) -> bool
-    requires halves_long { (length o.now ≡ half_length (scale ruler).m) × (length r.now ≡ half_length (scale ruler).m) }
-    requires halves_passed { halves_ok o.now originals.now r.now replicas.now ≡ true }
-    ensures { result ≡ all_slots_ok (scale ruler) o.now originals.now r.now replicas.now }
+fn all_slots_ok(ruler: Ruler, originals: HalfWords, replicas: HalfWords) -> bool
+    requires halves_long { (length originals.dir.now ≡ half_length (scale ruler).m) × (length replicas.dir.now ≡ half_length (scale ruler).m) }
+    requires halves_passed { halves_ok originals.dir.now originals.arena.now replicas.dir.now replicas.arena.now ≡ true }
+    ensures { result ≡ all_slots_ok (scale ruler) originals.entry.dir.now originals.entry.arena.now replicas.entry.dir.now replicas.entry.arena.now }
 {
-    let few = entries_of(o) <= Ruler::MOST_TRIPS;
-    let firsts = slots_ok(ruler, Half::Originals, o, originals);
-    let copies = slots_ok(ruler, Half::Replicas, r, replicas);
+    let few = entries_of(originals.dir) <= Ruler::MOST_TRIPS;
+    let firsts = slots_ok(ruler, Half::Originals, originals);
+    let copies = slots_ok(ruler, Half::Replicas, replicas);
     few & (firsts & copies)
 }
 
 // The tests over all trips.
 #[tactic(auto, using(crate::proofs::TestsPassed::some_words))]
-fn trips_ok(ruler: Ruler, o: &[u32], originals: &[u32], r: &[u32], replicas: &[u32]) -> bool
-    requires halves_long { (length o.now ≡ half_length (scale ruler).m) × (length r.now ≡ half_length (scale ruler).m) }
-    requires halves_passed { halves_ok o.now originals.now r.now replicas.now ≡ true }
-    requires slots_passed { all_slots_ok (scale ruler) o.now originals.now r.now replicas.now ≡ true }
-    ensures { result ≡ trips_ok (scale ruler) o.now originals.now r.now replicas.now }
+fn trips_ok(ruler: Ruler, originals: HalfWords, replicas: HalfWords) -> bool
+    requires halves_long { (length originals.dir.now ≡ half_length (scale ruler).m) × (length replicas.dir.now ≡ half_length (scale ruler).m) }
+    requires halves_passed { halves_ok originals.dir.now originals.arena.now replicas.dir.now replicas.arena.now ≡ true }
+    requires slots_passed { all_slots_ok (scale ruler) originals.dir.now originals.arena.now replicas.dir.now replicas.arena.now ≡ true }
+    ensures { result ≡ trips_ok (scale ruler) originals.entry.dir.now originals.entry.arena.now replicas.entry.dir.now replicas.entry.arena.now }
 {
-    let used = words_of(o);
-    let copied = words_of(r);
-    let entries = entries_of(o) + entries_of(r);
-    let differ = ids_differ(&originals[0..used]);
-    let known = all_known(ruler, o, originals, &replicas[0..copied]);
-    let counted = counts_to(ruler, entries, &originals[0..used]);
+    let used = words_of(originals.dir);
+    let copied = words_of(replicas.dir);
+    let entries = entries_of(originals.dir) + entries_of(replicas.dir);
+    let differ = ids_differ(&originals.arena[0..used]);
+    let known = all_known(ruler, originals, &replicas.arena[0..copied]);
+    let counted = counts_to(ruler, entries, &originals.arena[0..used]);
     differ & (known & counted)
 }
 
 // All tests, each group where the one before it passes.
 #[tactic(auto, using(crate::proofs::TestsPassed::some_words), unfolding(crate::specs::Local::locally))]
-fn locally(ruler: Ruler, o: &[u32], originals: &[u32], r: &[u32], replicas: &[u32]) -> bool
-    requires { (length o.now ≡ half_length (scale ruler).m) × (length r.now ≡ half_length (scale ruler).m) }
-    ensures { result ≡ locally (scale ruler) o.now originals.now r.now replicas.now }
+fn locally(ruler: Ruler, originals: HalfWords, replicas: HalfWords) -> bool
+    requires { (length originals.dir.now ≡ half_length (scale ruler).m) × (length replicas.dir.now ≡ half_length (scale ruler).m) }
+    ensures { result ≡ locally (scale ruler) originals.entry.dir.now originals.entry.arena.now replicas.entry.dir.now replicas.entry.arena.now }
 {
-    halves_ok(o, originals, r, replicas)
-        && all_slots_ok(ruler, o, originals, r, replicas)
-        && trips_ok(ruler, o, originals, r, replicas)
+    halves_ok(originals, replicas)
+        && all_slots_ok(ruler, originals, replicas)
+        && trips_ok(ruler, originals, replicas)
 }
 
 // Whether directory and arenas are the index of some table that build accepts for this ruler and these lengths.
@@ -81,7 +81,15 @@ pub fn is_index(ruler: Ruler, words: Words) -> bool
     ensures { result ≡ is_index (scale ruler) (index_of words.entry) }
 {
     let (o, r) = words.directory.split_at(half_length(ruler.bottom()));
-    locally(ruler, o, words.originals, r, words.replicas)
+    let originals = HalfWords {
+        dir: o,
+        arena: words.originals,
+    };
+    let replicas = HalfWords {
+        dir: r,
+        arena: words.replicas,
+    };
+    locally(ruler, originals, replicas)
 }
 
 // The tests 1, 3, 8 that each call on an index begins with: the ruler that was made for the index, or why there is none.

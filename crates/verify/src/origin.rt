@@ -12,6 +12,7 @@ ghost use Rattle.verify.specs.Passing.{each, some};
 ghost use Rattle.verify.specs.Local.{half_ok, slot_at, slots_ok, is_known};
 ghost use Rattle.trip.specs.Trips.{same_trip};
 
+use crate::half::HalfWords;
 use layout::ENTRY_WORDS;
 use ruler::Ruler;
 use store::entry::{START_AT, trip_at};
@@ -20,6 +21,14 @@ use store::part::part_there;
 use store::places::home;
 use trip::Trip;
 
+// A trip that is looked for, with its key in the order of originals.
+#[derive(Clone, Copy)]
+struct Keyed {
+    trip: Trip,
+    key: u64,
+    ghost keyed: { key ≡ key_by (key_place OIn) trip },
+}
+
 // The later of two places, if the key that stands there is not above the one that is looked for; else the other.
 fn narrowed(there: u64, key: u64, later: usize, low: usize) -> usize
     ensures { result ≡ cond (leb there key) later low }
@@ -27,13 +36,12 @@ fn narrowed(there: u64, key: u64, later: usize, low: usize) -> usize
     if there <= key { later } else { low }
 }
 
-// Whether the trip, whose key is known, is one of a part that is in the order of originals: by halving, so many steps as the part's length tells.
+// Whether the trip is one of a part that is in the order of originals: by halving, so many steps as the part's length tells.
 // A halving of its own: `holds` of `store` goes over words in fixed steps, this one over keys of two words each.
-fn has_trip(part: &[u32], n: usize, t: Trip, key: u64) -> bool
+fn has_trip(part: &[u32], n: usize, sought: Keyed) -> bool
     requires counted { n ≡ length part.now / entry_words }
-    requires keyed { key ≡ key_by (key_place OIn) t }
     requires in_order { InOrder (order OIn) no_trip (rows part.now) (length (rows part.now)) }
-    ensures { result ≡ some (same_trip t) (rows part.now) }
+    ensures { result ≡ some (same_trip sought.trip) (rows part.now) }
 {
     if n == 0 {
         return false;
@@ -44,50 +52,50 @@ fn has_trip(part: &[u32], n: usize, t: Trip, key: u64) -> bool
     while 1 < width {
         let half = width / 2;
         let there = key_at(part, START_AT, low + half);
-        low = narrowed(there, key, low + half, low);
+        low = narrowed(there, sought.key, low + half, low);
         width -= half;
     }
-    t.same(trip_at(part, low))
+    sought.trip.same(trip_at(part, low))
 }
 
 // Whether the trip stands in slot k, which is in the order of originals.
-fn slot_has(dir: &[u32], originals: &[u32], k: usize, t: Trip, key: u64) -> bool
-    requires part_there { PartThere dir.now originals.now k (k + 1) }
-    requires keyed { key ≡ key_by (key_place OIn) t }
-    requires in_order { InOrder (order OIn) no_trip (slot_at dir.now originals.now k) (length (slot_at dir.now originals.now k)) }
-    ensures { result ≡ some (same_trip t) (slot_at dir.now originals.now k) }
+fn slot_has(originals: HalfWords, k: usize, sought: Keyed) -> bool
+    requires part_there { PartThere originals.dir.now originals.arena.now k (k + 1) }
+    requires in_order { InOrder (order OIn) no_trip (slot_at originals.dir.now originals.arena.now k)
+        (length (slot_at originals.dir.now originals.arena.now k)) }
+    ensures { result ≡ some (same_trip sought.trip) (slot_at originals.entry.dir.now originals.entry.arena.now k) }
 {
-    let entries = dir[k + 1] - dir[k];
-    has_trip(
-        part_there(dir, originals, k, k + 1),
-        entries as usize,
-        t,
-        key,
-    )
+    let entries = originals.dir[k + 1] - originals.dir[k];
+    let part = part_there(originals.dir, originals.arena, k, k + 1);
+    has_trip(part, entries as usize, sought)
 }
 
 // Whether the original of a trip stands in its slot.
-fn is_known(ruler: Ruler, dir: &[u32], originals: &[u32], t: Trip, key: u64) -> bool
-    requires dir_len { length dir.now ≡ half_length (scale ruler).m }
-    requires originals_passed { (half_ok dir.now originals.now ≡ true) × (slots_ok (scale ruler) Originals dir.now originals.now ≡ true) }
-    requires trip_fits { (fits (scale ruler) t ≡ true) × (key ≡ key_by (key_place OIn) t) }
-    ensures { result ≡ is_known (scale ruler) dir.now originals.now t }
+fn is_known(ruler: Ruler, originals: HalfWords, sought: Keyed) -> bool
+    requires dir_len { length originals.dir.now ≡ half_length (scale ruler).m }
+    requires originals_passed { (half_ok originals.dir.now originals.arena.now ≡ true)
+        × (slots_ok (scale ruler) Originals originals.dir.now originals.arena.now ≡ true) }
+    requires trip_fits { fits (scale ruler) sought.trip ≡ true }
+    ensures { result ≡ is_known (scale ruler) originals.entry.dir.now originals.entry.arena.now sought.trip }
 {
-    slot_has(dir, originals, home(ruler, t) as usize, t, key)
+    slot_has(originals, home(ruler, sought.trip) as usize, sought)
 }
 
 // Whether the original of each trip of a part stands in its slot. The trips are known to fit.
-pub fn all_known(ruler: Ruler, dir: &[u32], originals: &[u32], part: &[u32]) -> bool
-    requires dir_len { length dir.now ≡ half_length (scale ruler).m }
-    requires originals_passed { (half_ok dir.now originals.now ≡ true) × (slots_ok (scale ruler) Originals dir.now originals.now ≡ true) }
+pub fn all_known(ruler: Ruler, originals: HalfWords, part: &[u32]) -> bool
+    requires dir_len { length originals.dir.now ≡ half_length (scale ruler).m }
+    requires originals_passed { (half_ok originals.dir.now originals.arena.now ≡ true)
+        × (slots_ok (scale ruler) Originals originals.dir.now originals.arena.now ≡ true) }
     requires rows_fit { each (fits (scale ruler)) (rows part.now) ≡ true }
-    ensures { result ≡ each (is_known (scale ruler) dir.now originals.now) (rows part.now) }
+    ensures { result ≡ each (is_known (scale ruler) originals.entry.dir.now originals.entry.arena.now) (rows part.now) }
 {
     let n = part.len() / ENTRY_WORDS;
     for k in 0..n {
-        let t = trip_at(part, k);
-        let key = key_at(part, START_AT, k);
-        if !is_known(ruler, dir, originals, t, key) {
+        let sought = Keyed {
+            trip: trip_at(part, k),
+            key: key_at(part, START_AT, k),
+        };
+        if !is_known(ruler, originals, sought) {
             return false;
         }
     }

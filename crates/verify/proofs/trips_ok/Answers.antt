@@ -32,8 +32,8 @@ counts_to-counted-requires c =
 pub returns : goal.returns
 unfolding trips_ok
 returns c =
-    let trips = all_rows c.args.o.now c.args.originals.now _ c.words_of-used.ensures in
-    let copies = all_rows c.args.r.now c.args.replicas.now _ c.words_of-copied.ensures in
+    let trips = all_rows c.args.originals.dir.now c.args.originals.arena.now _ c.words_of-used.ensures in
+    let copies = all_rows c.args.replicas.dir.now c.args.replicas.arena.now _ c.words_of-copied.ensures in
     rw (
       c.ids_differ-differ.ensures,
       c.all_known-known.ensures,

@@ -1,11 +1,8 @@
--- The place of the highest digit of a number of cells, which is small.
-use Prim.Native.Nat.{◌+◌, ◌-◌}
-use lib.Pow.{pow_mono}
-use Rattle.ruler.proofs.Zeros.{highest}
+-- One digit more is twice as many.
+use native.Mathlib.Nat.{two-pow-succ}
+use native.Mathlib.Numerals.{add-one}
 use native.Mathlib.Omega.{arith}
 use Rattle.ruler.proofs.Cell.levels_spanned.Goals as goal
 
 pub returns : goal.returns
-returns c =
-    let h = highest (c.args.last.1 - c.args.self.1 + 1) (omega arith) (omega (arith, pow_mono c.requires.0)) in
-    (h.1, h.2)
+returns c = rw (add-one c.ilog2.result) (c.ilog2.ensures.power_le, omega (arith, two-pow-succ c.ilog2.result, c.ilog2.ensures.next_power_gt))

@@ -14,10 +14,10 @@ returns-then-climb c =
     let part = c.args.part.now in
     sym (climbs-differ (ids (rows part)) (ap climbs (sym (every_id part)) ∙ sym c.climb.ensures ∙ c.if-climb.true))
 
-pub returns-then-not-class_differs : goal.returns-then-not-class_differs
-returns-then-not-class_differs c =
+pub returns-then-not-differs : goal.returns-then-not-differs
+returns-then-not-differs c =
     let part = c.args.part.now in
-    sym (class_stop _ (rows part) _ (sym c.class_differs.ensures ∙ c.if-not-class_differs.true))
+    sym (class_stop _ (rows part) _ (sym c.differs.ensures ∙ c.if-not-differs.true))
 
 pub returns : goal.returns
 returns c = sym (classes_end _ (rows c.args.part.now) (omega arith) (λ k h. c.loop-class.invariant.1 k (omega arith)))

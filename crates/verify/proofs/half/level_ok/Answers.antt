@@ -14,17 +14,17 @@ use Rattle.verify.proofs.half.level_ok.Goals as goal
 pub power-across-requires : goal.power-across-requires
 power-across-requires c = omega (arith, deep-ruler c.args.ruler)
 
-pub bounds-dir-first : goal.bounds-dir-first
-bounds-dir-first c = omega (arith, level_in (scale c.args.ruler).m c.args.level c.requires.level_in)
+pub bounds-words-first : goal.bounds-words-first
+bounds-words-first c = omega (arith, level_in (scale c.args.ruler).m c.args.level c.requires.level_in)
 
-pub bounds-dir-first-2 : goal.bounds-dir-first-2
-bounds-dir-first-2 c = omega (arith, level_in (scale c.args.ruler).m c.args.level c.requires.level_in)
+pub bounds-words-first-2 : goal.bounds-words-first-2
+bounds-words-first-2 c = omega (arith, level_in (scale c.args.ruler).m c.args.level c.requires.level_in)
 
-pub returns-then-dir-first : goal.returns-then-dir-first
-returns-then-dir-first c =
+pub returns-then-words-first : goal.returns-then-words-first
+returns-then-words-first c =
     let a = c.args in
-    let same = rw c.power-across.ensures at c.if-dir-first.true in
-    sym (level_empty (scale a.ruler) a.half a.dir.now a.arena.now c.requires.dir_len c.requires.half_passed a.level c.requires.level_in same)
+    let same = rw c.power-across.ensures at c.if-words-first.true in
+    sym (level_empty (scale a.ruler) a.half _ _ c.requires.dir_len c.requires.half_passed a.level c.requires.level_in same)
 
 pub loop-j-init : goal.loop-j-init
 loop-j-init c = below-start _
@@ -38,7 +38,7 @@ unfolding half_length
 slot_at-requires-clause-part_there c =
     let a = c.args in
     let here = slot_lt (scale a.ruler).m a.level c.loop-j.j c.requires.level_in (omega arith) in
-    rw c.power-across.ensures (slot_in a.dir.now a.arena.now _ c.requires.dir_len c.requires.half_passed (first_slot a.level + c.loop-j.j) here)
+    rw c.power-across.ensures (slot_in _ _ _ c.requires.dir_len c.requires.half_passed (first_slot a.level + c.loop-j.j) here)
 
 pub returns-then-not-slot_at : goal.returns-then-not-slot_at
 unfolding level_ok

@@ -8,4 +8,6 @@ use Rattle.verify.specs.Local.{slot_at, slot_ok, first_slot}
 use Rattle.verify.proofs.half.level_ok.Given as goal
 
 abbrev pub invariant-loop-j : goal.invariant-loop-j
-invariant-loop-j l = below (λ i. slot_ok (scale l.ruler) l.half (first_slot l.level + i) (slot_at l.dir l.arena (first_slot l.level + i))) l.j ≡ true
+invariant-loop-j l =
+    let w = l.words in
+    below (λ i. slot_ok (scale l.ruler) l.half (first_slot l.level + i) (slot_at w.dir.now w.arena.now (first_slot l.level + i))) l.j ≡ true

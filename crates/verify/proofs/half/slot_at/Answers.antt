@@ -10,7 +10,7 @@ use Rattle.verify.proofs.half.slot_at.Goals as goal
 pub returns-then-from-to : goal.returns-then-from-to
 returns-then-from-to c =
     let g = c.args in
-    sym (slot_empty _ g.half g.dir.now g.arena.now g.k c.if-from-to.true)
+    sym (slot_empty _ g.half _ g.words.arena.now g.k c.if-from-to.true)
 
 pub frame_of-frame-requires : goal.frame_of-frame-requires
 frame_of-frame-requires c =
@@ -22,7 +22,7 @@ in_row-requires-clause-frame_at c = rw (c.frame_of-frame.ensures, c.bottom.ensur
 pub in_row-requires-clause-counted : goal.in_row-requires-clause-counted
 in_row-requires-clause-counted c =
     let there = c.requires.part_there in
-    rw c.part_there.ensures (sym (part_count c.args.dir.now c.args.arena.now c.args.k there), omega (arith, there.rises, c.if-from-to.false))
+    rw c.part_there.ensures (sym (part_count _ _ c.args.k there), omega (arith, there.rises, c.if-from-to.false))
 
 pub returns : goal.returns
 unfolding slot_at

@@ -8,4 +8,4 @@ use Rattle.verify.proofs.SlotLevels.{passes}
 use Rattle.verify.proofs.half.slots_ok.Given as goal
 
 abbrev pub invariant-loop-level : goal.invariant-loop-level
-invariant-loop-level l = below (passes (scale l.ruler) l.half l.dir l.arena) (first_slot l.level) ≡ true
+invariant-loop-level l = below (passes (scale l.ruler) l.half l.words.dir.now l.words.arena.now) (first_slot l.level) ≡ true

@@ -9,5 +9,5 @@ use Rattle.verify.proofs.origin.all_known.Given as goal
 
 abbrev pub invariant-loop-k : goal.invariant-loop-k
 invariant-loop-k l =
-    let p = is_known (scale l.ruler) l.dir l.originals in
+    let p = is_known (scale l.ruler) l.originals.dir.now l.originals.arena.now in
     each p (drop l.k (rows l.part)) ≡ each p (rows l.part)

@@ -9,7 +9,7 @@ use Rattle.verify.proofs.origin.has_trip.Goals as goal
 
 pub returns-then-n-eq0 : goal.returns-then-n-eq0
 returns-then-n-eq0 c =
-    found_nowhere c.args.part.now c.args.t c.args.key c.requires.keyed (omega (arith, c.requires.counted))
+    found_nowhere c.args.part.now c.args.sought.trip c.args.sought.key c.args.sought.keyed (omega (arith, c.requires.counted))
 
 pub loop-width-init : goal.loop-width-init
 loop-width-init c = narrow_start _ _ c.args.n (omega arith) (length-up_to _ _ ∙ sym c.requires.counted)
@@ -27,7 +27,7 @@ pub loop-width-preserved : goal.loop-width-preserved
 unfolding key_place
 loop-width-preserved c =
     let k = c.loop-width in
-    found_step c.args.part.now c.args.t c.args.key c.requires.keyed (λ i. omega (arith, c.type_inv.part i)) c.requires.in_order
+    found_step c.args.part.now c.args.sought.trip c.args.sought.key c.args.sought.keyed (λ i. omega (arith, c.type_inv.part i)) c.requires.in_order
     k.low k.width c.key_at-there.result c.narrowed-low.result k.invariant (omega arith) c.key_at-there.ensures c.narrowed-low.ensures
 
 pub trip_at-requires : goal.trip_at-requires
@@ -37,4 +37,4 @@ pub returns : goal.returns
 returns c =
     let k = c.loop-width in
     rw (c.same.ensures, c.trip_at.ensures)
-    (found_there c.args.part.now c.args.t c.args.key c.requires.keyed k.low k.width k.invariant (omega arith))
+    (found_there c.args.part.now c.args.sought.trip c.args.sought.key c.args.sought.keyed k.low k.width k.invariant (omega arith))

@@ -6,7 +6,7 @@ use Rattle.store.proofs.SlotKeys.{keys_at}
 use Rattle.verify.proofs.origin.has_trip.Given as goal
 
 abbrev pub invariant-loop-width : goal.invariant-loop-width
-invariant-loop-width l = Narrowed l.key (keys_at (key_place OIn) l.part) l.low l.width
+invariant-loop-width l = Narrowed l.sought.key (keys_at (key_place OIn) l.part) l.low l.width
 
 abbrev pub decreases-loop-width : goal.decreases-loop-width
 decreases-loop-width l = l.width

@@ -5,12 +5,12 @@ use Rattle.verify.specs.Local.{slot_at}
 use Rattle.verify.proofs.origin.slot_has.Goals as goal
 
 pub has_trip-requires-clause-counted : goal.has_trip-requires-clause-counted
-has_trip-requires-clause-counted c = rw c.part_there.ensures (sym (part_entries c.args.dir.now c.args.originals.now c.args.k _ c.requires.part_there))
+has_trip-requires-clause-counted c = rw c.part_there-part.ensures (sym (part_entries _ _ c.args.k _ c.requires.part_there))
 
 pub has_trip-requires-clause-in_order : goal.has_trip-requires-clause-in_order
 unfolding slot_at
-has_trip-requires-clause-in_order c = rw c.part_there.ensures c.requires.in_order
+has_trip-requires-clause-in_order c = rw c.part_there-part.ensures c.requires.in_order
 
 pub returns : goal.returns
 unfolding slot_at
-returns c = rw (c.has_trip.ensures, c.part_there.ensures)
+returns c = rw (c.has_trip.ensures, c.part_there-part.ensures)

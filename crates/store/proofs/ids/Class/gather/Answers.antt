@@ -1,7 +1,7 @@
 -- What is left of the class from the first row on is what was gathered, and then what is left.
 use native.Mathlib.Omega.{arith}
 use Rattle.layout.proofs.Rows.{length-rows}
-use Rattle.store.proofs.ids.gather.Goals as goal
+use Rattle.store.proofs.ids.Class.gather.Goals as goal
 
 pub returns : goal.returns
 returns c =

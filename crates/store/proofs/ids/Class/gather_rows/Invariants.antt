@@ -5,9 +5,9 @@ use Prim.Native.Nat.{◌+◌, ◌-◌, ◌≤◌}
 use lib.ListN.{take}
 use Rattle.layout.specs.Words.{rows}
 use Rattle.store.specs.Ids.{of_class}
-use Rattle.store.proofs.ids.gather_rows.Given as goal
+use Rattle.store.proofs.ids.Class.gather_rows.Given as goal
 
 abbrev pub invariant-loop-k : goal.invariant-loop-k
 invariant-loop-k l =
     (l.found ≤ l.had + (l.k - l.from))
-    × (take l.had l.initial.room ++ of_class l.classes l.class (rows l.part) l.from ≡ take l.found l.room ++ of_class l.classes l.class (rows l.part) l.k)
+    × (take l.had l.initial.room ++ of_class l.self.classes l.self.class (rows l.part) l.from ≡ take l.found l.room ++ of_class l.self.classes l.self.class (rows l.part) l.k)

@@ -5,12 +5,12 @@ use Rattle.lists.proofs.Lent.{head_lent}
 use Rattle.layout.proofs.Rows.{length-rows}
 use Rattle.store.specs.Ids.{differ}
 use Rattle.store.proofs.Classes.{class_none, front_stop, front_all, front_again, front-more, full_room, none_differ}
-use Rattle.store.proofs.ids.class_differs.Goals as goal
+use Rattle.store.proofs.ids.Class.differs.Goals as goal
 
 pub returns-then-n-k : goal.returns-then-n-k
 returns-then-n-k c =
     let args = c.args in
-    let none = class_none args.classes args.class args.part.now c.gather-found.result.next (omega arith) in
+    let none = class_none args.self.classes args.self.class args.part.now c.gather-found.result.next (omega arith) in
     c.words_differ.ensures ∙ ap differ (head_lent _ c.gather-found.result.found) ∙ sym (front_all _ _ _ c.gather-found.ensures.there none) ∙ c.loop-k.invariant.1
 
 pub returns-then-not-put_in_order : goal.returns-then-not-put_in_order
@@ -38,5 +38,5 @@ loop-k-preserved c =
 pub returns : goal.returns
 returns c =
     let args = c.args in
-    let none = class_none args.classes args.class args.part.now c.loop-k.k (omega arith) in
+    let none = class_none args.self.classes args.self.class args.part.now c.loop-k.k (omega arith) in
     sym (none_differ _ none) ∙ c.loop-k.invariant.1

@@ -4,11 +4,11 @@ use Prim.Native.Nat.{◌-◌}
 use lib.ListN.{length}
 use Rattle.layout.specs.Words.{rows}
 use Rattle.store.specs.Ids.{differ, of_class}
-use Rattle.store.proofs.ids.class_differs.Given as goal
+use Rattle.store.proofs.ids.Class.differs.Given as goal
 
 abbrev pub invariant-loop-k : goal.invariant-loop-k
 invariant-loop-k l =
-    (length l.room ≡ length l.initial.room) × (differ (of_class l.classes l.class (rows l.part) l.k) ≡ differ (of_class l.classes l.class (rows l.part) 0))
+    (length l.room ≡ length l.initial.room) × (differ (of_class l.self.classes l.self.class (rows l.part) l.k) ≡ differ (of_class l.self.classes l.self.class (rows l.part) 0))
 
 abbrev pub decreases-loop-k : goal.decreases-loop-k
 decreases-loop-k l = l.n - l.k

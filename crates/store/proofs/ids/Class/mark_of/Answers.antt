@@ -3,7 +3,7 @@ use mathlib.Core.Path.{ap}
 use Prim.Native.Nat.{ℕ, ◌/◌, ◌%◌}
 use Rattle.store.specs.Entries.{word_end}
 use Rattle.store.specs.Marks.{mark_share, mark_of}
-use Rattle.store.proofs.ids.mark_of.Goals as goal
+use Rattle.store.proofs.ids.Class.mark_of.Goals as goal
 
 pub returns : goal.returns
 unfolding mark_of
