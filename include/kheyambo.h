@@ -24,7 +24,7 @@
    Threads. The functions share nothing and keep nothing: no globals, no heap, no locks. Any number may run at once as long as the buffers
    that a call writes are no other call's; calls that only read (check, ask, census, run) may share an index.
 
-   Stack. Every call runs on a stack of 4 KiB: 3,344 bytes were the most that any took, on the largest inputs (tests/stack says it of each function).
+   Stack. Every call runs on a stack of 4 KiB: 3,328 bytes were the most that any took, on the largest inputs (tests/stack says it of each function).
    Ids are put in order in your answer list itself.
 
    A pointer is followed by its length in words. */

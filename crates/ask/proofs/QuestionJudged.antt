@@ -47,16 +47,19 @@ module _ (s : Scale) (q : Asking) where
       go (Some r) (Err w) is on h = absurd cc
       go None times is on h = absurd cc
 
-  pub judged_unfit : (w : Rejection) {j : Result Question Rejection} → j ≡ judged_of s q → j ≡ Err w → (rest : Outcome) → question_tests s q rest ≡ Err w
+  -- with detail 0, as document 01 names none for 9, 4, 5 and 17
+  pub judged_unfit : (w : Rejection) {j : Result Question Rejection} → j ≡ judged_of s q → j ≡ Err w → (rest : Outcome)
+      → (question_tests s q rest ≡ Err w) × (w.detail ≡ 0)
   unfolding judged_of judged_as question_tests no_such_code
   judged_unfit w e f rest = go (named q.code) (window_tests s q.window q.day Accepted) refl refl (sym e ∙ f)
     where
       go : (n : Option Relationship) (times : Outcome) → named q.code ≡ n → window_tests s q.window q.day Accepted ≡ times → judged_as n times q ≡ Err w
-          → refuse (ltb last_code q.code) NoRelationship 0 (window_tests s q.window q.day rest) ≡ Err w
+          → (refuse (ltb last_code q.code) NoRelationship 0 (window_tests s q.window q.day rest) ≡ Err w) × (w.detail ≡ 0)
       go (Some r) (Ok _) is on h = absurd cc
       go (Some r) (Err v) is on h =
           let same : v ≡ w = cc in
-          refuse_pass _ _ 0 _ (rw (named-within q.code is) tt) ∙ window_refused s q.window q.day v rest on ∙ ap Err same
+          let refused = window_refused s q.window q.day v rest on in
+          (refuse_pass _ _ 0 _ (rw (named-within q.code is) tt) ∙ refused.0 ∙ ap Err same, ap (λ (x : Rejection). x.detail) (sym same) ∙ refused.1)
       go None times is on h =
           let same : rejection NoRelationship 0 ≡ w = cc in
-          refuse_taken (ltb last_code q.code) NoRelationship 0 _ (to_T (nothing_above q.code is)) ∙ ap Err same
+          (refuse_taken (ltb last_code q.code) NoRelationship 0 _ (to_T (nothing_above q.code is)) ∙ ap Err same, ap (λ (x : Rejection). x.detail) (sym same))

@@ -9,10 +9,10 @@ ghost use Rattle.ruler.specs.Made.{scale};
 ghost use Rattle.trip.specs.Trips.{last_day};
 ghost use Rattle.layout.specs.Answers.{answer};
 ghost use Rattle.layout.specs.Refusals.{OnRuler, table_of, is_index, room_test};
-ghost use Rattle.layout.specs.Calls.{ask_of};
+ghost use Rattle.layout.specs.Calls.{index, ask_of};
 ghost use Rattle.store.specs.WordsLent.{index_of};
 ghost use Rattle.walk.specs.Seen.{LevelsSeen, levels_seen};
-ghost use Rattle.ask.specs.Told.{asked_by};
+ghost use Rattle.ask.specs.Told.{outcome_told, count_told, asked_by};
 ghost use Rattle.ask.specs.Chain.{listed_of, answer_of};
 
 use crate::judge::judge;
@@ -69,7 +69,8 @@ fn listed(
     Ok(count as u32)
 }
 
-// The answer to a question on an index, as it is put.
+// The answer to a question on an index, as it is put. Not inlined: what it needs of the stack is free again, or not yet taken, while the index is checked.
+#[inline(never)]
 fn answer_to(
     ruler: Ruler,
     words: Words,
@@ -91,8 +92,29 @@ pub fn ask(
     asking: Asking,
     answers: &mut [u32],
 ) -> Result<u32, Rejection>
-    ensures { asked_by result answers.new ≡ ask_of (scale_of numbers) (index_of words.entry) asking answers.old }
+    ensures { asked_by result answers.new ≡ ask_of (scale_of numbers)
+        (index words.entry.directory.now words.entry.originals.now words.entry.replicas.now) asking answers.old }
 {
     let ruler = open(numbers, words)?;
     answer_to(ruler, words, asking, answers)
+}
+
+// The outcome of a question: a refusal keeps its detail.
+pub fn outcome_of(answer: Result<u32, Rejection>) -> Result<(), Rejection>
+    ensures { result ≡ outcome_told answer }
+{
+    match answer {
+        Ok(_) => Ok(()),
+        Err(rejection) => Err(rejection),
+    }
+}
+
+// And its count: "any count that a refused call gives is 0".
+pub fn count_of(answer: Result<u32, Rejection>) -> u32
+    ensures { result ≡ count_told answer }
+{
+    match answer {
+        Ok(count) => count,
+        Err(_) => 0,
+    }
 }

@@ -101,7 +101,7 @@ module _ (s : Scale) (table d o r : List ℕ) {a : Outcome} (says : a ≡ build_
   left_old w e = leaves_found (Err w) (index d o r) _ refl (sym e ∙ says)
 
   module _ (fine : a ≡ Accepted) where
-    accepted-table : Table s (rows table) (lengths (length d) (length o) (length r)) × (length table % entry_words ≡ 0)
+    pub accepted-table : Table s (rows table) (lengths (length d) (length o) (length r)) × (length table % entry_words ≡ 0)
     accepted-table = of_build s table (lengths (length d) (length o) (length r)) (sym says ∙ fine)
 
     pub left_new : (d' o' r' : List ℕ) → d' ≡ directory_half s Originals (rows table) ++ directory_half s Replicas (rows table)
@@ -111,6 +111,21 @@ module _ (s : Scale) (table d o r : List ℕ) {a : Outcome} (says : a ≡ build_
     left_new d' o' r' p q t = leaves_made (index d o r) _ (sym says ∙ fine) (λ i. record { directory = p i; originals = q i; replicas = t i })
 
 -- ---- what each half is filled with
+
+module _ (r : Ruler) (table d o p : List ℕ) (w : Table (scale r) (rows table) (lengths (length d) (length o) (length p))) where
+  tested-table : Tested r table
+  tested-table = record { few = w.few; rows_ok = w.rows_ok }
+
+  pub first_half_lem : (long room : ℕ) → long ≡ half_length (scale r).m → room ≡ length o → Fillable r table Originals long room
+  first_half_lem long room e f = record { tested = tested-table; whole = e; fits = rw f w.room.for_originals }
+
+  pub second_half_lem : (long : ℕ) → long ≡ half_length (scale r).m → Fillable r table Replicas long (length p)
+  second_half_lem long e = record { tested = tested-table; whole = e; fits = w.room.for_replicas }
+
+  pub rows-room : length table % entry_words ≡ 0 → length table ≤ length o
+  rows-room whole =
+      let firsts : length (entries (scale r) Originals (rows table)) ≡ length table / entry_words = originals_are r table tested-table in
+      omega (arith, w.room.for_originals, firsts, whole)
 
 -- both halves of a directory, and what each of them is made from
 pub record ToBuild (r : Ruler) (table d o p : List ℕ) : Type 0 where
@@ -126,12 +141,10 @@ pub to_build : (r : Ruler) (table d o p : List ℕ) {a : Outcome} → a ≡ buil
 to_build r table d o p e fine =
     let accepted = accepted-table (scale r) table d o p e fine in
     let w = accepted.0 in
-    let tested : Tested r table = record { few = w.few; rows_ok = w.rows_ok } in
-    let firsts : length (entries (scale r) Originals (rows table)) ≡ length table / entry_words = originals_are r table tested in
     record {
       long = w.directory;
       whole = accepted.1;
-      originals = record { tested = tested; whole = refl; fits = w.room.for_originals };
-      replicas = record { tested = tested; whole = refl; fits = w.room.for_replicas };
-      room = omega (arith, w.room.for_originals, firsts, accepted.1);
+      originals = first_half_lem r table d o p w _ _ refl refl;
+      replicas = second_half_lem r table d o p w _ refl;
+      room = rows-room r table d o p w accepted.1;
     }

@@ -3,6 +3,7 @@
 use mathlib.Core.Path.{sym, ap, ◌∙◌}
 use mathlib.Core.List.{List}
 use Prim.Native.Nat.{ℕ}
+use Rattle.std.specs.Prelude.{◌≡◌, Result, Ok, Err}
 use Rattle.lists.specs.Lists.{ascending}
 use Rattle.ruler.specs.declared.Time.{Time}
 use Rattle.ruler.specs.declared.Numbers.{Numbers}
@@ -15,13 +16,15 @@ use Rattle.trip.specs.declared.Relationship.{Relationship}
 use Rattle.trip.specs.Relationships.{named, related}
 use Rattle.trip.specs.Trips.{trip_of, same_trip, runs_on_any, never_runs, window_of, asking_of}
 use Rattle.layout.specs.declared.Refusal.{Refusal}
+use Rattle.layout.specs.declared.Rejection.{Rejection}
 use Rattle.layout.specs.Outcomes.{Outcome}
 use Rattle.layout.specs.Words.{Index}
 use Rattle.layout.specs.Refusals.{refusal_number, number_of, detail_of, check_outcome, run_outcome}
 use Rattle.layout.specs.Calls.{After, after, Asked, asked, build_of, add_of, remove_of, ask_of, census_of, run_of, run_from_of}
 use Rattle.verify.specs.Opening.{open_of}
 use Rattle.view.specs.Views.{place_of}
-use Rattle.demands.specs.Settled.{One, OneAfter, OneAsked}
+use Rattle.ask.specs.Told.{outcome_told, count_told, asked_by}
+use Rattle.demands.specs.Settled.{One, OneAfter, OneAsked, OneAnswer}
 
 -- the general law: two things that both equal what the input says are one
 pub settled : {A : Type 0} (said : A) → One said
@@ -37,6 +40,18 @@ one_asked : (said : Asked) → OneAsked said
 one_asked said o p k j l m e f =
     let same = settled said (asked o k l) (asked p j m) e f in
     (ap (λ (a : Asked). a.outcome) same, ap (λ (a : Asked). a.count) same, ap (λ (a : Asked). a.answers) same)
+
+-- an answer of `ask` is its outcome and its count
+one_told : (a b : Result ℕ Rejection) → outcome_told a ≡ outcome_told b → count_told a ≡ count_told b → a ≡ b
+one_told (Ok k) (Ok j) e f = ap Ok f
+one_told (Ok k) (Err r) e f = absurd cc
+one_told (Err r) (Ok k) e f = absurd cc
+one_told (Err r) (Err w) e f = let same : r ≡ w = cc in ap Err same
+
+one_answer : (said : Asked) → OneAnswer said
+one_answer said a b l m e f =
+    let same = settled said (asked_by a l) (asked_by b m) e f in
+    (one_told a b (ap (λ (x : Asked). x.outcome) same) (ap (λ (x : Asked). x.count) same), ap (λ (x : Asked). x.answers) same)
 
 -- ---- what the entries take and give: times, `Ruler::new`, trips, windows, questions, relationships, the numbers of an outcome, and the sort of ids where they stand
 
@@ -110,6 +125,10 @@ module _ (n : Numbers) (x : Index) where
 
   pub ask_settled : (q : Asking) (list : List ℕ) → OneAsked (ask_of (scale_of n) x q list)
   ask_settled q list = one_asked (ask_of (scale_of n) x q list)
+
+  -- and the answer itself, which tells its outcome and its count
+  pub ask-answer_settled : (q : Asking) (list : List ℕ) → OneAnswer (ask_of (scale_of n) x q list)
+  ask-answer_settled q list = one_answer (ask_of (scale_of n) x q list)
 
   -- the check, and the outcome of the census
   pub open_settled : One (open_of n x)

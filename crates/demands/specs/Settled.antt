@@ -1,9 +1,11 @@
 -- "any two results allowed by it are proved the same": a contract says that a record made of the result and of every lent word equals what the input
 -- says. What it is that two such results are the same, part by part, for each form of that record.
-use Rattle.std.specs.Prelude.{◌≡◌, true, List, [], ℕ}
+use Rattle.std.specs.Prelude.{◌≡◌, true, List, [], ℕ, Result}
+use Rattle.layout.specs.declared.Rejection.{Rejection}
 use Rattle.layout.specs.Outcomes.{Outcome}
 use Rattle.layout.specs.Words.{Index}
 use Rattle.layout.specs.Calls.{After, after, Asked, asked}
+use Rattle.ask.specs.Told.{asked_by}
 use Rattle.export.specs.declared.Said.{Said}
 use Rattle.export.specs.declared.Told.{Told}
 use Rattle.export.specs.Said.{Left, left, Heard, told, Counted, counted}
@@ -24,6 +26,10 @@ OneAfter said = (o p : Outcome) (y z : Index) → after o y ≡ said → after p
 -- an outcome and a count, with the answer list after it
 abbrev pub OneAsked : Asked → Type 0
 OneAsked said = (o p : Outcome) (k j : ℕ) (l m : List ℕ) → asked o k l ≡ said → asked p j m ≡ said → (o ≡ p) × (k ≡ j) × (l ≡ m)
+
+-- the same of an answer as `ask` gives it, a count or a refusal
+abbrev pub OneAnswer : Asked → Type 0
+OneAnswer said = (a b : Result ℕ Rejection) (l m : List ℕ) → asked_by a l ≡ said → asked_by b m ≡ said → (a ≡ b) × (l ≡ m)
 
 -- the same of the C functions, and the counts of a census that one writes
 abbrev pub OneLeft : Left → Type 0

@@ -16,7 +16,6 @@ use Rattle.lists.proofs.Lent.{head_lent, head_back}
 use Rattle.ruler.specs.declared.Numbers.{Numbers}
 use Rattle.ruler.specs.Ruler.{Scale, scale_of, bottom_of, numbers_of}
 use Rattle.trip.specs.declared.Asking.{Asking}
-use Rattle.trip.specs.Trips.{trip_of, asking_of}
 use Rattle.std.specs.Prelude.{Option, Some, None, is_some, IfSome}
 use Rattle.std.specs.Bool.{then_some}
 use Rattle.std.specs.Option.{option_map_or}
@@ -32,7 +31,7 @@ use Rattle.text.specs.Command.{command_of, longest_line}
 use Rattle.text.proofs.Longest.{cut_line}
 use Rattle.dialogue.specs.declared.Turned.{Turned}
 use Rattle.dialogue.specs.Reply.{outcome_bytes, answer_bytes, Wrote}
-use Rattle.dialogue.specs.Session.{deepest_here, State, state, Turn, shown, written_back, bad_line, when_open, added, removed, questioned, opened, edited, answered, InSession, turn_of, turned, Done}
+use Rattle.dialogue.specs.Session.{deepest_here, State, state, Turn, shown, written_back, bad_line, opened, edited, answered, InSession, turn_of, turned, Done}
 
 -- a line that is cut where no line with a meaning goes on does and writes what the whole line does
 pub cut_turn : (s : State) (line : List ℕ) (k : ℕ) → longest_line < k → turn_of s (command_of (take k line)) ≡ turn_of s (command_of line)
@@ -136,14 +135,13 @@ count-within s x q list {l'} {outcome} {count} e kept =
     go (Err r) ids counted written = omega arith
 
 -- a line that is only for an open session leaves its ruler
-whenever : (s : State) (turn : Numbers → Turn)
-    → ((n : Numbers) → s.desk ≡ Some n → (turn n).next.desk ≡ s.desk) → (when_open s turn).next.desk ≡ s.desk
-unfolding bad_line
-whenever s turn kept = go s.desk refl
+whenever : (s : State) (turn : Numbers → Turn) (none : Turn) → ((n : Numbers) → (turn n).next.desk ≡ s.desk) → none.next.desk ≡ s.desk
+    → IfSome s.desk InSession → IfSome (option_map_or turn s.desk none).next.desk InSession
+whenever s turn none kept shut h = rw (go s.desk) h
   where
-    go : (o : Option Numbers) → s.desk ≡ o → (option_map_or turn o (bad_line s)).next.desk ≡ s.desk
-    go None e = refl
-    go (Some n) e = kept n e
+    go : (o : Option Numbers) → (option_map_or turn o none).next.desk ≡ s.desk
+    go None = shut
+    go (Some n) = kept n
 
 -- every turn leaves a ruler of the session
 pub keeps : (s : State) (c : Option Command) → IfSome s.desk InSession → IfSome (turn_of s c).next.desk InSession
@@ -159,9 +157,9 @@ keeps s (Some (Ruler w m)) h = go (is_some s.desk || ltb deepest_here m) refl
         → IfSome (cond t (bad_line s) (opened s (numbers_of w m))).next.desk InSession
     go true e = h
     go false e = named _ (not_deeper (is_some s.desk) m e)
-keeps s (Some (Add i st end days)) h = rw (whenever s (λ n. added s n (trip_of i st end days)) (λ n e. refl)) h
-keeps s (Some (Remove i)) h = rw (whenever s (λ n. removed s n i) (λ n e. refl)) h
-keeps s (Some (Ask c st end day)) h = rw (whenever s (λ n. questioned s n (asking_of c st end day)) (λ n e. refl)) h
+keeps s (Some (Add i st end days)) h = whenever s _ _ (λ n. refl) refl h
+keeps s (Some (Remove i)) h = whenever s _ _ (λ n. refl) refl h
+keeps s (Some (Ask c st end day)) h = whenever s _ _ (λ n. refl) refl h
 
 pub done_keeps : (s : State) (c : Option Command) {r : Turned} {x : Index} {answers reply₀ reply : List ℕ}
     → Done (turn_of s c) r x answers reply₀ reply

@@ -64,7 +64,8 @@ fn add_checked(
         originals,
         replicas,
     };
-    tests::add_outcome(ruler, words, t)?;
+    let outcome = tests::add_outcome(ruler, words, t);
+    outcome?;
     write::<Addition>(ruler, directory, originals, replicas, t);
     Ok(())
 }

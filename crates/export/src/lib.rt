@@ -214,17 +214,12 @@ pub fn kheyambo_ask<'a>(
         originals,
         replicas,
     };
-    match ask::ask(Numbers::from(ruler), words, asking, answers) {
-        Ok(count) => Told {
-            number: ACCEPTED,
-            detail: 0,
-            count,
-        },
-        Err(rejection) => Told {
-            number: u32::from(rejection.refusal),
-            detail: rejection.detail,
-            count: 0,
-        },
+    let answer = ask::ask(Numbers::from(ruler), words, asking, answers);
+    let said = Said::from(ask::outcome_of(answer));
+    Told {
+        number: said.number,
+        detail: said.detail,
+        count: ask::count_of(answer),
     }
 }
 

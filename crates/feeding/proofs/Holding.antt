@@ -1,6 +1,7 @@
 -- What the code holds is what the definitions hold: after a line, after a byte, and from byte to byte of a chunk.
 -- Assumes nothing.
 use mathlib.Core.Path.{◌≡◌, refl, sym, ap, ◌∙◌}
+use mathlib.Core.HLevel.{is_prop→PathP}
 use mathlib.Core.Bool.{true, false, ◌&&◌}
 use mathlib.Core.List.{List, [], ◌++◌}
 use Prim.Native.Nat.{ℕ, ◌+◌, ◌-◌, ◌*◌, ◌≤◌, ◌<◌}
@@ -11,34 +12,50 @@ use lib.Dec.{ltb}
 use lib.ListN.{length, drop, get_or, length-append, length-take}
 use lib.Seq.{sets, length-sets, drop-cons, drop-length}
 use borrow.Rule.Slice.PartMut.{mid_of, put_mid}
+use Rattle.std.proofs.Props.{props}
+use Rattle.lists.specs.Lists.{padded}
 use Rattle.lists.proofs.Lent.{part_stored}
 use Rattle.lists.proofs.Stores.{sets_append}
 use Rattle.layout.specs.Words.{Index}
 use Rattle.text.specs.Bytes.{newline}
 use Rattle.text.specs.Command.{command_of}
 use Rattle.dialogue.specs.declared.Turned.{Turned}
+use Rattle.feeding.specs.declared.line.Line.{Line}
 use Rattle.feeding.specs.declared.Standing.{Standing}
 use Rattle.feeding.specs.declared.Fed.{Fed}
 use Rattle.dialogue.specs.Session.{most_reply, state, turn_of, Done}
-use Rattle.feeding.specs.Feeding.{Held, Feed, leaving, line_done, byte_kept, byte_of, feed_of, end_of, held_by, Sound, Left}
+use Rattle.feeding.specs.Line.{line_kept, Kept}
+use Rattle.feeding.specs.Feeding.{Held, Feed, leaving, line_done, byte_kept, byte_of, feed_of, end_of, line_of, held_by, Sound, Left}
+use Rattle.feeding.proofs.Keeping.{count_back}
 use Rattle.dialogue.proofs.SessionTurns.{done_keeps}
+
+-- what is kept of a line settles every word of it
+one_line : (a b : Line) → line_of a ≡ line_of b → a ≡ b
+one_line a b e =
+    let bytes : a.bytes ≡ b.bytes = a.kept.zeros ∙ ap (padded line_kept) e ∙ sym b.kept.zeros in
+    let len : a.len ≡ b.len = sym (count_back a.bytes a.len a.kept) ∙ ap length e ∙ count_back b.bytes b.len b.kept in
+    λ i. record {
+      bytes = bytes i;
+      len = len i;
+      kept = is_prop→PathP (λ j. Kept (bytes j) (len j)) (λ j. hlevel props) a.kept b.kept i;
+    }
 
 -- what is held settles every word of what the code holds
 pub one_standing : (s t : Standing) (x y : Index) (l m : List ℕ) → held_by s x l ≡ held_by t y m → s ≡ t
 one_standing s t x y l m e =
     let desk : s.desk ≡ t.desk = ap (λ (h : Held). h.keeps.desk) e in
-    let line : s.line ≡ t.line = ap (λ (h : Held). h.line) e in
+    let line : s.line ≡ t.line = one_line s.line t.line (ap (λ (h : Held). h.line) e) in
     let more : s.more ≡ t.more = ap (λ (h : Held). h.goes_on) e in
     λ i. record { desk = desk i; line = line i; more = more i }
 
 -- ---- A line that ended
 
 pub line-left : (s : Standing) (x : Index) (l : List ℕ) → Sound s → {r : Turned} {x' : Index} {l' out₀ out : List ℕ}
-    → Done (turn_of (state s.desk x l) (command_of s.line)) r x' l' out₀ out
-    → Left (line_done (held_by s x l)) (record { standing = record { desk = r.desk; line = []; more = r.more }; written = r.written }) x' l' out₀ out
+    → Done (turn_of (state s.desk x l) (command_of (line_of s.line))) r x' l' out₀ out → (line : Line) → line_of line ≡ []
+    → Left (line_done (held_by s x l)) (record { standing = record { desk = r.desk; line = line; more = r.more }; written = r.written }) x' l' out₀ out
 unfolding line_done
-line-left s x l sound done = record {
-  holds = rw (done.next, done.goes);
+line-left s x l sound done line none = record {
+  holds = rw (done.next, done.goes, none);
   sound = record { ruler = done_keeps _ _ done sound.ruler };
   count = done.count;
   fits = done.fits;
@@ -62,12 +79,12 @@ module _ (s : Standing) (x : Index) (l : List ℕ) {r : Fed} {x' : Index} {l' ou
   unfolding byte_of byte_kept
   byte_stays b e n kept left = rw (e, ne_eqb b newline n) (rw (kept, e) at left)
 
-  pub end_line : (s.more && ltb 0 (length s.line)) ≡ true → Left (line_done (held_by s x l)) r x' l' out₀ out
+  pub end_line : (s.more && ltb 0 (length (line_of s.line))) ≡ true → Left (line_done (held_by s x l)) r x' l' out₀ out
       → Left (end_of (held_by s x l)) r x' l' out₀ out
   unfolding end_of
   end_line e left = rw e left
 
-  pub end_silent : (s.more && ltb 0 (length s.line)) ≡ false → Left (leaving (held_by s x l) []) r x' l' out₀ out
+  pub end_silent : (s.more && ltb 0 (length (line_of s.line))) ≡ false → Left (leaving (held_by s x l) []) r x' l' out₀ out
       → Left (end_of (held_by s x l)) r x' l' out₀ out
   unfolding end_of
   end_silent e left = rw e left

@@ -9,7 +9,13 @@ use lib.ListN.{length, take, set, length-append, length-take}
 use lib.Seq.{take_all, take_at, take-suc-set}
 use Rattle.lists.specs.Lists.{padded}
 use Rattle.lists.proofs.Padded.{padded-length, padded-more}
-use Rattle.feeding.specs.Line.{line_kept, Kept, count_back}
+use Rattle.feeding.specs.Line.{line_kept, Kept}
+
+-- the room holds so many bytes
+pub count_back : (room : List ℕ) (n : ℕ) → Kept room n → length (take n room) ≡ n
+count_back room n kept =
+    let whole = ap length kept.zeros ∙ padded-length line_kept (take n room) (omega (arith, length-take n room, kept.within)) in
+    omega (arith, length-take n room, kept.within, whole)
 
 module _ (room : List ℕ) (n b : ℕ) (kept : Kept room n) where
   abbrev line : List ℕ

@@ -5,6 +5,7 @@ use Rattle.layout.specs.Words.{directory_length, Index}
 use Rattle.text.specs.Bytes.{newline}
 use Rattle.text.specs.Command.{command_of}
 use Rattle.feeding.specs.Line.{line_kept}
+use Rattle.feeding.specs.declared.line.Line.{Line}
 use Rattle.feeding.specs.declared.Standing.{Standing}
 use Rattle.feeding.specs.declared.Fed.{Fed}
 use Rattle.dialogue.specs.Session.{deepest_here, most_answers, most_reply, State, state, turn_of, start, InSession}
@@ -63,9 +64,13 @@ run_of h (chunk ∷ chunks) = let f = feed_of h chunk in f.writes ++ run_of f.af
 abbrev pub Reached : Held → Type 0
 Reached h = (input : List ℕ) × (h ≡ (feed_of begun input).after)
 
+-- what the code keeps of a line
+abbrev pub line_of : Line → List ℕ
+line_of a = take a.len a.bytes
+
 -- what the code holds, with the words lent
 abbrev pub held_by : Standing → Index → (answers : List ℕ) → Held
-held_by s x l = held (state s.desk x l) s.line s.more
+held_by s x l = held (state s.desk x l) (line_of s.line) s.more
 
 -- the ruler of the code, if any, is one of the session
 -- it stays a fact beside the Standing: `begin`, and the theorem `begin_settled` of `demands`, promise it by this name

@@ -22,7 +22,7 @@ use Rattle.layout.specs.declared.Half.TheVariants.{Originals, Replicas}
 use Rattle.layout.specs.declared.Refusal.{Refusal}
 use Rattle.layout.specs.declared.Rejection.{Rejection}
 use Rattle.layout.specs.declared.Refusal.TheVariants.{OffRuler, Backward, NoRoom, NoSuchDay}
-use Rattle.layout.specs.Outcomes.{Outcome, Accepted, Refused}
+use Rattle.layout.specs.Outcomes.{Outcome, Accepted, Refused, rejection}
 use Rattle.layout.specs.Words.{entry_words, directory_length, entries, Lengths}
 use Rattle.layout.specs.Refusals.{refuse, detail_of, is_accepted, out_of_bounds, bad_size, bad_directory, off_ruler, backward, has_id, no_room, exceeds, no_such_day, time_tests, window_tests, room_test, on_ruler, OnRuler, fits, Fits}
 
@@ -225,15 +225,15 @@ window_pass s w day rest e =
     let on = window_on s w day Accepted e in
     times_pass s w.start w.end 0 _ on.0 ∙ refuse_pass _ _ 0 _ (le→nltb last_day day on.1)
 
--- a refusal of the window's stands for every rest
+-- a refusal of the window's stands for every rest, with detail 0
 pub window_refused : (s : Scale) (w : Window) (day : ℕ) (r : Rejection) (rest : Outcome) → window_tests s w day Accepted ≡ Err r
-    → window_tests s w day rest ≡ Err r
+    → (window_tests s w day rest ≡ Err r) × (r.detail ≡ 0)
 unfolding window_tests time_tests refuse
 window_refused s w day r rest e = go (off_ruler s w.start w.end) (backward w.start w.end) (no_such_day day) e
   where
     go : (a b c : Bool) → refuse a OffRuler 0 (refuse b Backward 0 (refuse c NoSuchDay 0 Accepted)) ≡ Err r
-        → refuse a OffRuler 0 (refuse b Backward 0 (refuse c NoSuchDay 0 rest)) ≡ Err r
-    go true b c q = q
-    go false true c q = q
-    go false false true q = q
+        → (refuse a OffRuler 0 (refuse b Backward 0 (refuse c NoSuchDay 0 rest)) ≡ Err r) × (r.detail ≡ 0)
+    go true b c q = let p : rejection OffRuler 0 ≡ r = cc in (q, ap (λ (v : Rejection). v.detail) (sym p))
+    go false true c q = let p : rejection Backward 0 ≡ r = cc in (q, ap (λ (v : Rejection). v.detail) (sym p))
+    go false false true q = let p : rejection NoSuchDay 0 ≡ r = cc in (q, ap (λ (v : Rejection). v.detail) (sym p))
     go false false false q = absurd cc

@@ -11,8 +11,11 @@ use std::io;
 use store::words::Words;
 use trip::{Asking, Trip};
 
-// What a call says: a count, where it gives one, or why it is refused.
-type Said = Result<Option<u32>, Rejection>;
+// What a call says: its count, or why it is refused.
+type Said = Result<u32, Rejection>;
+
+// The count of a call that gives none, which is not written.
+const NO_COUNT: u32 = 0;
 
 fn build_said(
     n: Named,
@@ -22,18 +25,18 @@ fn build_said(
     replicas: &mut [u32],
 ) -> Said {
     build::build(n.ruler, table, directory, originals, replicas)?;
-    Ok(None)
+    Ok(NO_COUNT)
 }
 
 fn check_said(n: Named, words: Words) -> Said {
     verify::check(n.ruler, words)?;
-    Ok(None)
+    Ok(NO_COUNT)
 }
 
 fn add_said(n: Named, directory: &mut [u32], originals: &mut [u32], replicas: &mut [u32]) -> Said {
     let t = Trip::of(n.first, n.second, n.third, n.fourth);
     edit::add(n.ruler, directory, originals, replicas, t)?;
-    Ok(None)
+    Ok(NO_COUNT)
 }
 
 fn remove_said(
@@ -43,22 +46,22 @@ fn remove_said(
     replicas: &mut [u32],
 ) -> Said {
     edit::remove(n.ruler, directory, originals, replicas, n.first)?;
-    Ok(None)
+    Ok(NO_COUNT)
 }
 
 fn ask_said(n: Named, words: Words, answers: &mut [u32]) -> Said {
     let asking = Asking::of(n.first, n.second, n.third, n.fourth);
-    Ok(Some(ask::ask(n.ruler, words, asking, answers)?))
+    ask::ask(n.ruler, words, asking, answers)
 }
 
 fn run_said(n: Named, words: Words) -> Said {
     view::run_outcome(n.ruler, words, n.first, n.second, n.third)?;
-    Ok(None)
+    Ok(NO_COUNT)
 }
 
 fn census_said(n: Named, words: Words) -> Said {
     view::census_outcome(n.ruler, words)?;
-    Ok(None)
+    Ok(NO_COUNT)
 }
 
 // The call of a row. A row names its call: the calls take different buffers, so no one type of function fits. What a build reads,
@@ -106,7 +109,7 @@ fn put_census(rt: &impl Print, answer: &mut Answer, n: Named, words: Words) -> i
     Ok(())
 }
 
-// The outcome, and what the row gives after it. A refused call has no count, and 0 is written for it.
+// The outcome, and what the row gives after it.
 fn put_said(
     rt: &impl Print,
     answer: &mut Answer,
@@ -115,14 +118,11 @@ fn put_said(
     n: Named,
     words: Words,
 ) -> io::Result<()> {
-    let (number, detail, count) = match said {
-        Ok(count) => (0, 0, count),
-        Err(rejection) => (u32::from(rejection.refusal), rejection.detail, None),
-    };
-    answer.outcome(rt, number, detail)?;
+    let outcome = ask::outcome_of(said);
+    answer.outcome(rt, layout::number_of(outcome), layout::detail_of(outcome))?;
     match gives {
         Gives::Nothing => Ok(()),
-        Gives::Count => answer.number(rt, count.unwrap_or(0)),
+        Gives::Count => answer.number(rt, ask::count_of(said)),
         Gives::Run => put_run(rt, answer, n, words),
         Gives::Census => put_census(rt, answer, n, words),
     }

@@ -1,5 +1,5 @@
 // Writing the answer of a call: numbers with one space between, through a buffer that is written out whenever it is nearly full.
-ghost use Rattle.std.specs.Prelude.{◌+◌, ◌≤◌, length, OnOk};
+ghost use Rattle.std.specs.Prelude.{◌≡◌, ◌+◌, ◌≤◌, length, OnOk};
 
 use std::io;
 
@@ -40,13 +40,21 @@ impl Answer {
         }
     }
 
-    // Writes out what the buffer holds where it has no room for one more field.
+    // Writes out what the buffer holds.
+    fn flush(&mut self, rt: &impl Print) -> io::Result<()>
+        ensures { OnOk result (self.new.held ≡ 0) }
+    {
+        rt.write_all(&self.out[0..self.held])?;
+        self.held = 0;
+        Ok(())
+    }
+
+    // The same where it has no room for one more field.
     fn make_room(&mut self, rt: &impl Print) -> io::Result<()>
         ensures { OnOk result (self.new.held + SPARE ≤ ROOM) }
     {
         if ROOM - self.held < SPARE {
-            rt.write_all(&self.out[0..self.held])?;
-            self.held = 0;
+            self.flush(rt)?;
         }
         Ok(())
     }

@@ -213,12 +213,14 @@ pub none_differ : (l : List ℕ) → l ≡ [] → differ l ≡ true
 unfolding sort climbs
 none_differ l e = rw e
 
--- a full room, where rows of a part are left, is all of what was gathered
+-- a full room is all of what was gathered
+pub full-room : (all room left : List ℕ) (found : ℕ) → all ≡ take found room ++ left → found ≡ length room → all ≡ room ++ left
+full-room all room left found e f = e ∙ ap (λ (l : List ℕ). l ++ left) (take_all found room (omega arith))
+
+-- and it is full where rows of a part are left
 pub full_room : {classes class from found next : ℕ} {room : List ℕ} (l : List ℕ) → Gathers classes class (rows l) from room found next → next < length l / entry_words
     → of_class classes class (rows l) from ≡ room ++ of_class classes class (rows l) next
-full_room {classes} {class} {next = next} {room = room} l g h =
-    let full = g.full (omega (arith, length-rows l)) in
-    g.there ∙ ap (λ (k : List ℕ). k ++ of_class classes class (rows l) next) (take_all _ room (omega arith))
+full_room l g h = full-room _ _ _ _ g.there (g.full (omega (arith, length-rows l)))
 
 -- ---- all classes
 

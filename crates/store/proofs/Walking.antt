@@ -110,6 +110,11 @@ module _ {half : Half} {spots₀ spots : List ℕ} {n level lo hi ca cb : ℕ} {
 pub halved : (hi level : ℕ) → 0 < level → hi * 2 ≤ 2 ^ level → hi ≤ 2 ^ (level - 1)
 halved hi level p h = let e : level ≡ suc (level - 1) = omega arith in omega (arith, ap (λ (k : ℕ). 2 ^ k) e ∙ two-pow-succ (level - 1))
 
+-- a bound of them, one level up
+pub half_more : (from level : ℕ) → 0 < level → from ≤ 2 ^ level → (from + 1) / 2 ≤ 2 ^ (level - 1)
+half_more from level p h = let e : level ≡ suc (level - 1) = omega arith in
+    omega (arith, ap (λ (k : ℕ). 2 ^ k) e ∙ two-pow-succ (level - 1))
+
 -- ---- the walk over cells: n slots are written, and at a level the partitions from lo on, up to hi, lie in the trip's cells, there first .. last
 
 pub record Going (half : Half) (spots₀ spots : List ℕ) (n : ℕ) (lo hi first last : Cell) (whole : List ℕ) : Type 0 where

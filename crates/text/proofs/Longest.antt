@@ -1,14 +1,14 @@
 -- The longest line that is not malformed is a letter and four numbers of ten digits, each after a space. So a line that does not end
 -- within a buffer of more bytes is malformed, whatever follows.
 -- Assumes nothing.
-use mathlib.Core.Path.{◌≡◌, refl}
+use mathlib.Core.Path.{◌≡◌, refl, sym, ap, ◌∙◌}
 use mathlib.Core.Bool.{Bool, true, false, cond}
-use mathlib.Core.List.{List, [], ◌∷◌}
-use Prim.Native.Nat.{ℕ, suc, ◌+◌, ◌*◌, ◌≤◌, ◌<◌}
+use mathlib.Core.List.{List, [], ◌∷◌, ◌++◌, append_assoc, append-nil}
+use Prim.Native.Nat.{ℕ, suc, ◌+◌, ◌-◌, ◌*◌, ◌≤◌, ◌<◌}
 use native.Mathlib.Omega.{arith}
-use borrow.Author.Tests.{leb-true, leb-false}
-use lib.Dec.{leb, eqb}
-use lib.ListN.{length, take}
+use borrow.Author.Tests.{leb-true, leb-false, ltb-true, ltb-false, le-leb, lt-leb}
+use lib.Dec.{leb, ltb, eqb}
+use lib.ListN.{length, take, length-append}
 use lib.Seq.{take_all, length-take-le}
 use Rattle.std.specs.Prelude.{Option, Some, None, option_and_then}
 use Rattle.std.proofs.lemmas.Option.{none-some, same_Some}
@@ -86,3 +86,87 @@ cut_line l k h = go (leb (length l) k) refl
     go false e =
         let more = leb-false (length l) k e in
         rw (long_line l (omega arith), long_line (take k l) (omega (arith, length-take-le k l (omega arith))))
+
+-- ---- The same of the numbers one after another: how many bytes those that follow may have
+
+-- one number more, of which there are at most four; none once one is malformed or they are too many
+abbrev pub with_one : Option (List ℕ) → Option ℕ → Option (List ℕ)
+with_one None x = None
+with_one (Some ns) None = None
+with_one (Some ns) (Some n) = cond (ltb (length ns) most_numbers) (Some (ns ++ (n ∷ []))) None
+
+-- the numbers with those of more fields
+unfoldable pub numbers_after : Option (List ℕ) → List (List ℕ) → Option (List ℕ)
+numbers_after ns [] = ns
+numbers_after ns (f ∷ fs) = numbers_after (with_one ns (number_of f)) fs
+
+-- how many numbers there are; after wrong ones none may follow, as after the most
+abbrev pub counted : Option (List ℕ) → ℕ
+counted None = most_numbers
+counted (Some ns) = length ns
+
+-- how many bytes the fields after these numbers may have
+abbrev pub room : Option (List ℕ) → ℕ
+room ns = (most_numbers - counted ns) * most_field
+
+stays_wrong : (fs : List (List ℕ)) → numbers_after None fs ≡ None
+unfolding numbers_after
+stays_wrong [] = refl
+stays_wrong (f ∷ fs) = stays_wrong fs
+
+-- one field more, of few bytes, takes up its room
+pub one_more : (ns : Option (List ℕ)) (x : Option ℕ) (n : ℕ) (fs : List (List ℕ)) → n ≤ most_digits → room ns < suc n + size fs
+    → ((ms : Option (List ℕ)) → room ms < size fs → numbers_after ms fs ≡ None) → numbers_after (with_one ns x) fs ≡ None
+one_more None x n fs few h rest = stays_wrong fs
+one_more (Some ns) None n fs few h rest = stays_wrong fs
+one_more (Some ns) (Some a) n fs few h rest = go (ltb (length ns) most_numbers) refl
+  where
+    go : (b : Bool) → ltb (length ns) most_numbers ≡ b → numbers_after (cond b (Some (ns ++ (a ∷ []))) None) fs ≡ None
+    go true e = rest (Some (ns ++ (a ∷ []))) (omega (arith, length-append ns (a ∷ []), ltb-true (length ns) most_numbers e))
+    go false e = stays_wrong fs
+
+-- more bytes than there is room for are malformed
+long_numbers : (fs : List (List ℕ)) (ns : Option (List ℕ)) → room ns < size fs → numbers_after ns fs ≡ None
+unfolding numbers_after
+long_numbers [] ns h = absurd (omega arith)
+long_numbers (f ∷ fs) ns h = go (leb (length f) most_digits) refl (long_numbers fs)
+  where
+    go : (t : Bool) → leb (length f) most_digits ≡ t → ((ms : Option (List ℕ)) → room ms < size fs → numbers_after ms fs ≡ None)
+        → numbers_after (with_one ns (number_of f)) fs ≡ None
+    go true e rest = one_more ns (number_of f) (length f) fs (leb-true (length f) most_digits e) h rest
+    go false e rest = rw (too_many f (leb-false (length f) most_digits e)) (wrong ns)
+      where
+        wrong : (ks : Option (List ℕ)) → numbers_after (with_one ks None) fs ≡ None
+        wrong None = stays_wrong fs
+        wrong (Some ks) = stays_wrong fs
+
+-- and all of them are the numbers of the line, where these are at most four
+abbrev pub few_numbers : List ℕ → Option (List ℕ)
+few_numbers ns = cond (leb (length ns) most_numbers) (Some ns) None
+
+pub numbers_are : (fs : List (List ℕ)) (ns : List ℕ) → length ns ≤ most_numbers
+    → numbers_after (Some ns) fs ≡ option_and_then (λ ms. few_numbers (ns ++ ms)) (numbers_of fs)
+unfolding numbers_after numbers_of
+numbers_are [] ns h = rw (append-nil ns, le-leb (length ns) most_numbers h)
+numbers_are (f ∷ fs) ns h = go (number_of f) (numbers_are fs)
+  where
+    go : (x : Option ℕ) → ((ks : List ℕ) → length ks ≤ most_numbers
+        → numbers_after (Some ks) fs ≡ option_and_then (λ ms. few_numbers (ks ++ ms)) (numbers_of fs))
+        → numbers_after (with_one (Some ns) x) fs ≡ option_and_then (λ ms. few_numbers (ns ++ ms)) (followed_by x (numbers_of fs))
+    go None rest = stays_wrong fs
+    go (Some n) rest = more (ltb (length ns) most_numbers) refl
+      where
+        many : (o : Option (List ℕ)) → most_numbers ≤ length ns → option_and_then (λ ms. few_numbers (ns ++ ms)) (followed_by (Some n) o) ≡ None
+        many None g = refl
+        many (Some ms) g = rw (lt-leb (length (ns ++ (n ∷ ms))) most_numbers (omega (arith, length-append ns (n ∷ ms))))
+
+        joins : (o : Option (List ℕ)) → option_and_then (λ ms. few_numbers ((ns ++ (n ∷ [])) ++ ms)) o
+            ≡ option_and_then (λ ms. few_numbers (ns ++ ms)) (followed_by (Some n) o)
+        joins None = refl
+        joins (Some ms) = ap few_numbers (append_assoc ns (n ∷ []) ms)
+
+        more : (b : Bool) → ltb (length ns) most_numbers ≡ b → numbers_after (cond b (Some (ns ++ (n ∷ []))) None) fs
+            ≡ option_and_then (λ ms. few_numbers (ns ++ ms)) (followed_by (Some n) (numbers_of fs))
+        more true e =
+            rest (ns ++ (n ∷ [])) (omega (arith, length-append ns (n ∷ []), ltb-true (length ns) most_numbers e)) ∙ joins (numbers_of fs)
+        more false e = stays_wrong fs ∙ sym (many (numbers_of fs) (ltb-false (length ns) most_numbers e))

@@ -1,6 +1,6 @@
 -- Laws of a number written in decimal digits: one digit more, how many there are, and the digits over the front of a list.
 -- Assumes nothing.
-use mathlib.Core.Path.{◌≡◌, refl, ◌∙◌}
+use mathlib.Core.Path.{◌≡◌, refl}
 use mathlib.Core.Bool.{Bool, true, false, cond}
 use mathlib.Core.List.{List, [], ◌∷◌, ◌++◌}
 use Prim.Native.Nat.{ℕ, zero, suc, max, ◌+◌, ◌*◌, ◌/◌, ◌%◌, ◌^◌, ◌≤◌, ◌<◌}
@@ -68,14 +68,14 @@ length_more n h = rw (decimal-more n h, length-append)
 pub some-digit : (n : ℕ) → 1 ≤ length (decimal n)
 some-digit = by_digits (λ n l. 1 ≤ length l) (λ n h. omega arith) (λ n l h p. rw length-append (omega arith))
 
-one_digit : (n : ℕ) → 1 ≡ length (decimal n) → n < base
+pub one_digit : (n : ℕ) → length (decimal n) ≤ 1 → n < base
 one_digit n e = go (ltb n base) refl
   where
     go : (t : Bool) → ltb n base ≡ t → n < base
     go true p = ltb-true n base p
     go false p = absurd (omega (arith, length_more n (ltb-false n base p), some-digit (n / base)))
 
-some_digits : (n : ℕ) → 2 ≤ length (decimal n) → base ≤ n
+pub some_digits : (n : ℕ) → 2 ≤ length (decimal n) → base ≤ n
 some_digits n h = go (ltb n base) refl
   where
     go : (t : Bool) → ltb n base ≡ t → base ≤ n
@@ -128,42 +128,16 @@ over_last xs b l h =
     rw (set_split l n b h, after, length-append, append_snoc, add-one)
 
 module _ (n i : ℕ) (l : List ℕ) (count : i + 1 ≡ length (decimal n)) (room : i < length l) where
-  put-more : base ≤ n → over (decimal (n / base)) (set l i (digit (n % base))) ≡ over (decimal n) l
+  pub put-more : base ≤ n → over (decimal (n / base)) (set l i (digit (n % base))) ≡ over (decimal n) l
   put-more h =
       let last : i ≡ length (decimal (n / base)) = omega (arith, length_more n h) in
       rw (decimal-more n h, last, over_last (decimal (n / base)) (digit (n % base)) l (rw last at room))
 
-  put_last : n < base → set l i (digit n) ≡ over (decimal n) l
+  pub put_last : n < base → set l i (digit n) ≡ over (decimal n) l
   unfolding over
   put_last h =
       let last : i ≡ 0 = omega (arith, length_one n h) in
       rw (decimal_one n h, last, ← over_last [] (digit n) l (rw last at room))
-
--- i digits are still to be written: those of what is left, or none
-abbrev pub Writing : (n : ℕ) (out₀ out : List ℕ) (left i : ℕ) → Type 0
-Writing n out₀ out left zero = out ≡ over (decimal n) out₀
-Writing n out₀ out left (suc i) = (suc i ≡ length (decimal left)) × (over (decimal left) out ≡ over (decimal n) out₀)
-
-pub write_start : (n : ℕ) (out : List ℕ) (count : ℕ) → count ≡ length (decimal n) → Writing n out out n count
-write_start n out zero e = absurd (omega (arith, some-digit n))
-write_start n out (suc i) e = (e, refl)
-
-pub write_end : (n : ℕ) (out₀ out : List ℕ) (left i : ℕ) → Writing n out₀ out left i → i ≤ 0 → out ≡ over (decimal n) out₀
-write_end n out₀ out left zero w h = w
-write_end n out₀ out left (suc i) w h = absurd (omega arith)
-
-pub write_turn : (n : ℕ) (out₀ out : List ℕ) (left i j : ℕ) → i ≡ suc j → Writing n out₀ out left i → i ≤ length out
-    → Writing n out₀ (set out j (digit (left % base))) (left / base) j
-write_turn n out₀ out left i j e w room = go j (rw e at w) (rw e at room)
-  where
-    go : (j : ℕ) → Writing n out₀ out left (suc j) → suc j ≤ length out → Writing n out₀ (set out j (digit (left % base))) (left / base) j
-    go zero w room =
-        let last = one_digit left w.0 in
-        let same : left % base ≡ left = omega arith in
-        rw same (put_last left 0 out w.0 (omega arith) last ∙ w.1)
-    go (suc j) w room =
-        let more = some_digits left (omega (arith, w.0)) in
-        (omega (arith, w.0, length_more left more), put-more left (suc j) out (rw add-one w.0) (omega arith) more ∙ w.1)
 
 -- room for the digits, or none
 pub fits-front : (n : ℕ) (l : List ℕ) → length (decimal n) ≤ length l

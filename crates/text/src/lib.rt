@@ -140,7 +140,7 @@ pub fn command_of(line: &[u8]) -> Option<Command>
 fn digit_count(n: u32) -> usize
     ensures { result ≡ length (decimal n) }
 {
-    n.max(1).ilog10() as usize + 1
+    if n < BASE { 1 } else { n.ilog10() as usize + 1 }
 }
 
 // Writes the digits of a number at the front of `out`, the last digit first, since division gives them in that order.
@@ -149,10 +149,11 @@ fn put_digits(n: u32, count: usize, out: &mut [u8])
     ensures { out.new ≡ over (decimal n) out.old }
 {
     let mut left = n;
-    for i in (0..count).rev() {
+    for i in (1..count).rev() {
         out[i] = ZERO + (left % BASE) as u8;
         left /= BASE;
     }
+    out[0] = ZERO + left as u8;
 }
 
 // Writes a number at the front of `out` and gives how many bytes it took. Where it has no room, it takes 0 and `out` stays as it

@@ -6,7 +6,7 @@ ghost use Rattle.ruler.specs.Ruler.{scale_of};
 ghost use Rattle.ruler.specs.Made.{scale};
 ghost use Rattle.layout.specs.Words.{half_length, directory_length};
 ghost use Rattle.layout.specs.Refusals.{is_index, check_outcome};
-ghost use Rattle.store.specs.WordsLent.{index_of};
+ghost use Rattle.layout.specs.Calls.{index};
 ghost use Rattle.verify.specs.Local.{halves_ok, all_slots_ok, trips_ok, locally};
 ghost use Rattle.verify.specs.Opening.{open_of, outcome_of};
 
@@ -78,7 +78,7 @@ fn locally(ruler: Ruler, originals: HalfWords, replicas: HalfWords) -> bool
 // Whether directory and arenas are the index of some table that build accepts for this ruler and these lengths.
 pub fn is_index(ruler: Ruler, words: Words) -> bool
     requires { length words.directory.now ≡ directory_length (scale ruler).m }
-    ensures { result ≡ is_index (scale ruler) (index_of words.entry) }
+    ensures { result ≡ is_index (scale ruler) (index words.entry.directory.now words.entry.originals.now words.entry.replicas.now) }
 {
     let (o, r) = words.directory.split_at(half_length(ruler.bottom()));
     let originals = HalfWords {
@@ -94,7 +94,7 @@ pub fn is_index(ruler: Ruler, words: Words) -> bool
 
 // The tests 1, 3, 8 that each call on an index begins with: the ruler that was made for the index, or why there is none.
 pub fn open(numbers: Numbers, words: Words) -> Result<Ruler, Refusal>
-    ensures { result ≡ open_of numbers (index_of words.entry) }
+    ensures { result ≡ open_of numbers (index words.entry.directory.now words.entry.originals.now words.entry.replicas.now) }
 {
     let ruler = ruler_for(numbers, words.directory)?;
     if !is_index(ruler, words) {
@@ -113,7 +113,7 @@ pub fn outcome_of(opened: Result<Ruler, Refusal>) -> Result<(), Rejection>
 
 // The check of an index: those tests and no more.
 pub fn check(numbers: Numbers, words: Words) -> Result<(), Rejection>
-    ensures { result ≡ check_outcome (scale_of numbers) (index_of words.entry) }
+    ensures { result ≡ check_outcome (scale_of numbers) (index words.entry.directory.now words.entry.originals.now words.entry.replicas.now) }
 {
     outcome_of(open(numbers, words))
 }

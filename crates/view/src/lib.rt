@@ -11,7 +11,6 @@ ghost use Rattle.ruler.specs.Ruler.{scale_of};
 ghost use Rattle.ruler.specs.Made.{scale};
 ghost use Rattle.layout.specs.Refusals.{no_such_slot, check_outcome, run_outcome};
 ghost use Rattle.layout.specs.Calls.{index, census_of, run_of, run_from_of};
-ghost use Rattle.store.specs.WordsLent.{index_of};
 ghost use Rattle.view.specs.Views.{Readable, rows_opened, slot_place, place_of};
 
 use counts::level_rows;
@@ -31,12 +30,14 @@ const LAST_SUBDIVISION: u32 = 3;
 
 // Whether the census is accepted.
 pub fn census_outcome(numbers: Numbers, words: Words) -> Result<(), Rejection>
-    ensures { result ≡ check_outcome (scale_of numbers) (index_of words.entry) }
+    ensures { result ≡ check_outcome (scale_of numbers) (index words.entry.directory.now words.entry.originals.now words.entry.replicas.now) }
 {
     check(numbers, words)
 }
 
-// The rows of words that were opened: a row for each level, of the entries in O_in, O_aft, R_in and R_aft; all zeros where they were refused.
+// The rows of words that were opened: a row for each level, of the entries in O_in, O_aft, R_in and R_aft; all zeros where they were refused. Not
+// inlined: the stack that they need is not taken while the index is checked.
+#[inline(never)]
 pub fn rows_opened(
     opened: Result<Ruler, Refusal>,
     directory: &[u32],
@@ -52,7 +53,7 @@ pub fn rows_opened(
 
 // The census.
 pub fn census(numbers: Numbers, words: Words) -> [[u32; SUBDIVISIONS]; LEVELS]
-    ensures { result ≡ census_of (scale_of numbers) (index_of words.entry) }
+    ensures { result ≡ census_of (scale_of numbers) (index words.entry.directory.now words.entry.originals.now words.entry.replicas.now) }
 {
     let opened = open(numbers, words);
     rows_opened(opened, words.directory)
@@ -97,7 +98,8 @@ pub fn run_place(
     partition: u32,
     subdivision: u32,
 ) -> Result<Place, Rejection>
-    ensures { result ≡ place_of (scale_of numbers) (index_of words.entry) level partition subdivision }
+    ensures { result ≡ place_of (scale_of numbers) (index words.entry.directory.now words.entry.originals.now words.entry.replicas.now)
+        level partition subdivision }
 {
     let ruler = open(numbers, words)?;
     if no_such_slot(ruler, level, partition, subdivision) {
@@ -118,7 +120,8 @@ pub fn run_outcome(
     partition: u32,
     subdivision: u32,
 ) -> Result<(), Rejection>
-    ensures { result ≡ run_outcome (scale_of numbers) (index_of words.entry) level partition subdivision }
+    ensures { result ≡ run_outcome (scale_of numbers) (index words.entry.directory.now words.entry.originals.now words.entry.replicas.now)
+        level partition subdivision }
 {
     run_place(numbers, words, level, partition, subdivision)?;
     Ok(())
@@ -156,7 +159,8 @@ pub fn run_from(
     partition: u32,
     subdivision: u32,
 ) -> usize
-    ensures { result ≡ run_from_of (scale_of numbers) (index_of words.entry) level partition subdivision }
+    ensures { result ≡ run_from_of (scale_of numbers) (index words.entry.directory.now words.entry.originals.now words.entry.replicas.now)
+        level partition subdivision }
 {
     let place = run_place(numbers, words, level, partition, subdivision).unwrap_or(NOWHERE);
     place.from

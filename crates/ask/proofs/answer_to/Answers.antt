@@ -13,7 +13,7 @@ returns-in_err-question c =
     let a = c.args in
     let trips = table_of (scale a.ruler) (index_of a.words) in
     let why = err_from_is_err_and c.from_residual.result c.from_residual.ensures.1 in
-    rw (why.1, why.2) (ends_unfit (scale a.ruler) trips a.asking _ _ (judged_unfit (scale a.ruler) a.asking _ c.judge.ensures c.in_err-question.was))
+    rw (why.1, why.2) (ends_unfit (scale a.ruler) trips a.asking _ _ (λ rest. (judged_unfit (scale a.ruler) a.asking _ c.judge.ensures c.in_err-question.was rest).0))
 
 pub listed-requires : goal.listed-requires
 listed-requires c = record {

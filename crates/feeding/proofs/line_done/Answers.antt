@@ -3,4 +3,4 @@ use Rattle.feeding.proofs.Holding.{line-left}
 use Rattle.feeding.proofs.line_done.Goals as goal
 
 pub returns : goal.returns
-returns c = rw c.new.ensures (line-left c.args.standing _ _ c.requires.0 (rw c.bytes.ensures at c.turn-turned.ensures))
+returns c = line-left c.args.standing _ _ c.requires.0 (rw c.bytes.ensures at c.turn-turned.ensures) _ c.new.ensures

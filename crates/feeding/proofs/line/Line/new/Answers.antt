@@ -6,4 +6,4 @@ use Rattle.feeding.proofs.line.Line.new.Goals as goal
 
 pub invariant_of-result : goal.invariant_of-result
 unfolding padded
-invariant_of-result c = record { within = omega arith; zeros = refl }
+invariant_of-result c = record { kept = record { within = omega arith; zeros = refl } }
